@@ -1,0 +1,2 @@
+-- What the field's contracts are written with.
+pub mod Field

@@ -1,0 +1,4 @@
+// The field of b_field_element.rs.
+pub fn nothing() -> u64 {
+    0
+}

@@ -1,0 +1,5 @@
+-- Laws that the other crates cite as Rattle.laws.proofs.NAME.
+pub mod Orders
+pub mod Tests
+pub mod Lists
+pub mod Updates

@@ -1,0 +1,2 @@
+-- Definitions that other crates' definitions are written with.
+pub mod Lists
