@@ -3,3 +3,7 @@ pub mod Orders
 pub mod Tests
 pub mod Lists
 pub mod Updates
+pub mod Congruence
+pub mod Powers
+pub mod Pigeonhole
+pub mod ModularSolver

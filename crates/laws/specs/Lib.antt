@@ -1,2 +1,3 @@
 -- Definitions that other crates' definitions are written with.
 pub mod Lists
+pub mod Congruence
