@@ -1,2 +1,3 @@
 -- What the field's contracts are written with.
 pub mod Field
+pub mod Element

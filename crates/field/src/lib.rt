@@ -1,4 +1,224 @@
-// The field of b_field_element.rs.
-pub fn nothing() -> u64 {
-    0
+// The prime field of order p = 2^64 - 2^32 + 1 of b_field_element.rs. An element is held as its Montgomery word, with R = 2^64.
+ghost use mathlib.Core.Path.{_≡_};
+ghost use Prim.Native.Nat.{_+_, _*_, _-_, _/_, _%_, _^_, _<_, _≤_};
+ghost use Rattle.field.specs.Field.{P, reduced, wide};
+ghost use Rattle.field.specs.Element.{Good, num, Stands, inverted};
+
+// A number of 128 bits in two halves.
+struct Wide {
+    hi: u64,
+    lo: u64,
+}
+
+// The high half of a product, over digits of 32 bits. The halves are two functions, since LLVM then finds the one
+// multiplication that gives both; from one function that gives both it makes four.
+fn high_product(a: u64, b: u64) -> u64
+    ensures { λ r. ⌜ r ≡ a * b / 2 ^ 64 ⌝ }
+{
+    let a0 = a % 0x1_0000_0000;
+    let a1 = a / 0x1_0000_0000;
+    let b0 = b % 0x1_0000_0000;
+    let b1 = b / 0x1_0000_0000;
+    let t = a1 * b0 + a0 * b0 / 0x1_0000_0000;
+    let w = t % 0x1_0000_0000 + a0 * b1;
+    a1 * b1 + t / 0x1_0000_0000 + w / 0x1_0000_0000
+}
+
+// The low half of a product.
+fn low_product(a: u64, b: u64) -> u64
+    ensures { λ r. ⌜ r ≡ a * b % 2 ^ 64 ⌝ }
+{
+    let a0 = a % 0x1_0000_0000;
+    let a1 = a / 0x1_0000_0000;
+    let b0 = b % 0x1_0000_0000;
+    let b1 = b / 0x1_0000_0000;
+    let middle = std::num::wrapping_add_u64(a1 * b0, a0 * b1);
+    std::num::wrapping_add_u64(middle << 32, a0 * b0)
+}
+
+// The product of two numbers of 64 bits.
+fn product(a: u64, b: u64) -> Wide
+    ensures { λ r. ⌜ wide (r .hi) (r .lo) ≡ a * b ⌝ }
+{
+    Wide {
+        hi: high_product(a, b),
+        lo: low_product(a, b),
+    }
+}
+
+// The difference modulo p, for b at most p. The borrow that the wrapping difference loses is recovered by a comparison;
+// taken by an `if` over both results it becomes one conditional move, also in the sum.
+pub fn sub_mod_p(a: u64, b: u64) -> u64
+    requires { ⌜ (a < P) × (b ≤ P) ⌝ }
+    ensures { λ r. ⌜ (r ≡ (a + (P - b)) % P) × (r < P) ⌝ }
+{
+    let x = std::num::wrapping_sub_u64(a, b);
+    if a < b {
+        std::num::wrapping_add_u64(x, BFieldElement::P)
+    } else {
+        x
+    }
+}
+
+// The sum modulo p: a + b is a - (p - b).
+pub fn add_mod_p(a: u64, b: u64) -> u64
+    requires { ⌜ (a < P) × (b < P) ⌝ }
+    ensures { λ r. ⌜ (r ≡ (a + b) % P) × (r < P) ⌝ }
+{
+    sub_mod_p(a, BFieldElement::P - b)
+}
+
+// Montgomery's reduction: x / 2^64 modulo p, where the high half of x is below p.
+fn montyred(x: Wide) -> u64
+    requires { ⌜ x .hi < P ⌝ }
+    ensures { λ r. ⌜ (r ≡ reduced (wide (x .hi) (x .lo))) × (r < P) ⌝ }
+{
+    let xl = x.lo;
+    let a = std::num::wrapping_add_u64(xl, xl << 32);
+    // the carry that the wrapping sum loses
+    let e = if a < xl { 1 } else { 0 };
+    let b = std::num::wrapping_sub_u64(std::num::wrapping_sub_u64(a, a >> 32), e);
+    sub_mod_p(x.hi, b)
+}
+
+// a b / 2^64 modulo p, for a below p: a product of words, or of a word and a plain number.
+fn reduced_product(a: u64, b: u64) -> u64
+    requires { ⌜ a < P ⌝ }
+    ensures { λ r. ⌜ (r ≡ reduced (a * b)) × (r < P) ⌝ }
+{
+    montyred(product(a, b))
+}
+
+// A field element: its Montgomery word, made and read only through its functions.
+pub struct BFieldElement(u64);
+
+// What asking for an inverse gives.
+pub enum Inverted {
+    Inverse(BFieldElement),
+    OfZero,
+}
+
+impl BFieldElement {
+    pub const P: u64 = 0xffff_ffff_0000_0001;
+
+    pub const MAX: u64 = Self::P - 1;
+    // 2^128 modulo p, which makes a Montgomery word.
+    pub const R2: u64 = 0xffff_fffe_0000_0001;
+
+    pub fn new(value: u64) -> Self
+        ensures { λ r. ⌜ Stands r (value % P) ⌝ }
+    {
+        BFieldElement(reduced_product(Self::R2, value))
+    }
+
+    pub fn value(self) -> u64
+        ensures { λ r. ⌜ r ≡ num self ⌝ }
+    {
+        montyred(Wide { hi: 0, lo: self.0 })
+    }
+
+    pub fn add(self, rhs: Self) -> Self
+        requires { ⌜ Good self × Good rhs ⌝ }
+        ensures { λ r. ⌜ Stands r ((num self + num rhs) % P) ⌝ }
+    {
+        BFieldElement(add_mod_p(self.0, rhs.0))
+    }
+
+    pub fn sub(self, rhs: Self) -> Self
+        requires { ⌜ Good self × Good rhs ⌝ }
+        ensures { λ r. ⌜ Stands r ((num self + (P - num rhs)) % P) ⌝ }
+    {
+        BFieldElement(sub_mod_p(self.0, rhs.0))
+    }
+
+    pub fn mul(self, rhs: Self) -> Self
+        requires { ⌜ Good self × Good rhs ⌝ }
+        ensures { λ r. ⌜ Stands r ((num self * num rhs) % P) ⌝ }
+    {
+        BFieldElement(reduced_product(self.0, rhs.0))
+    }
+
+    // The element times a plain number, as a plain number: one reduction and no conversion.
+    pub fn scaled(self, x: u64) -> u64
+        requires { ⌜ Good self ⌝ }
+        ensures { λ r. ⌜ (r ≡ (num self * x) % P) × (r < P) ⌝ }
+    {
+        reduced_product(self.0, x)
+    }
+
+    pub fn neg(self) -> Self
+        requires { ⌜ Good self ⌝ }
+        ensures { λ r. ⌜ Stands r ((P - num self) % P) ⌝ }
+    {
+        BFieldElement(sub_mod_p(0, self.0))
+    }
+
+    // By squaring and multiplying from the exponent's top digit down; 0 to the power 0 is 1.
+    pub fn mod_pow(self, exp: u64) -> Self
+        requires { ⌜ Good self ⌝ }
+        ensures { λ r. ⌜ Stands r ((num self ^ exp) % P) ⌝ }
+    {
+        let mut acc = BFieldElement::new(1);
+        let mut digits = 64 - u64::leading_zeros(exp);
+        while 0 < digits {
+            digits -= 1;
+            acc = acc.mul(acc);
+            if (exp >> digits) % 2 == 1 {
+                acc = acc.mul(self);
+            }
+        }
+        acc
+    }
+
+    // The element squared so many times: B's `exp`.
+    fn squared(self, times: u32) -> Self
+        requires { ⌜ Good self ⌝ }
+        ensures { λ r. ⌜ Stands r ((num self ^ (2 ^ times)) % P) ⌝ }
+    {
+        let mut res = self;
+        let mut i: u32 = 0;
+        while i < times {
+            res = res.mul(res);
+            i += 1;
+        }
+        res
+    }
+
+    // From powers x^a and x^b the power x^(a 2^n + b): the n binary digits of b come behind those of a.
+    fn append(self, n: u32, low: Self) -> Self
+        requires { ⌜ Good self × Good low ⌝ }
+        ensures { λ r. ⌜ Stands r ((num self ^ (2 ^ n) * num low) % P) ⌝ }
+    {
+        self.squared(n).mul(low)
+    }
+
+    // The power p - 2 by B's chain: in binary p - 2 is 31 ones, a zero and 32 ones.
+    fn to_p_minus_2(self) -> Self
+        requires { ⌜ Good self ⌝ }
+        ensures { λ r. ⌜ Stands r ((num self ^ (P - 2)) % P) ⌝ }
+    {
+        let x = self;
+        let bin_2_ones = x.append(1, x);
+        let bin_3_ones = bin_2_ones.append(1, x);
+        let bin_6_ones = bin_3_ones.append(3, bin_3_ones);
+        let bin_12_ones = bin_6_ones.append(6, bin_6_ones);
+        let bin_24_ones = bin_12_ones.append(12, bin_12_ones);
+        let bin_30_ones = bin_24_ones.append(6, bin_6_ones);
+        let bin_31_ones = bin_30_ones.append(1, x);
+        let bin_31_ones_1_zero = bin_31_ones.mul(bin_31_ones);
+        let bin_32_ones = bin_31_ones_1_zero.mul(x);
+        bin_31_ones_1_zero.append(32, bin_32_ones)
+    }
+
+    pub fn inverse(self) -> Inverted
+        requires { ⌜ Good self ⌝ }
+        ensures { λ r. ⌜ r ≡ inverted (num self) ⌝ }
+    {
+        let word = self.0;
+        if word == 0 {
+            Inverted::OfZero
+        } else {
+            Inverted::Inverse(self.to_p_minus_2())
+        }
+    }
 }

@@ -4,6 +4,8 @@ pub mod Tests
 pub mod Lists
 pub mod Updates
 pub mod Congruence
+pub mod Wrapping
 pub mod Powers
 pub mod Pigeonhole
 pub mod ModularSolver
+pub mod Generators

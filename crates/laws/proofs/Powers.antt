@@ -42,6 +42,10 @@ mul-powers m x a b s t e f = (λ i. (e i * f i) % m) ∙ simp mods (ap (λ (n : 
 pub pow-powers : (m x a b s : ℕ) → s ≡ (x ^ a) % m → (s ^ b) % m ≡ (x ^ (a * b)) % m
 pow-powers m x a b s e = ap (λ (n : ℕ). (n ^ b) % m) e ∙ pow-mod m (x ^ a) b ∙ ap (λ (n : ℕ). n % m) (sym (pow-mul x a b))
 
+-- the digits of b behind those of a: the exponent a raised by a factor k, and b added
+pub append-powers : (m x a b k s t : ℕ) → s ≡ (x ^ a) % m → t ≡ (x ^ b) % m → (s ^ k * t) % m ≡ (x ^ (a * k + b)) % m
+append-powers m x a b k s t e f = sym (mul-mod-l m (s ^ k) t) ∙ mul-powers m x (a * k) b ((s ^ k) % m) t (pow-powers m x a k s e) f
+
 -- ---- by halving: what a computed test uses, with as much fuel as the exponent has bits
 unfoldable pub factor : ℕ → ℕ → ℕ → ℕ → ℕ
 factor m x zero h = h

@@ -1,0 +1,26 @@
+-- `neg` takes the number from p. Assumes nothing.
+use Prim.Native.Nat.{ℕ, _-_, _%_}
+use mathlib.Core.Path.{ap, _∙_}
+use native.Mathlib.Nat.{le-of-lt, zero-add}
+use lib.Dec.{lit<}
+use Rattle.field.specs.Field.{P, reduced}
+use Rattle.field.specs.Element.{Good, num}
+use Rattle.field.proofs.Elements.{num-sub}
+use Rattle.field.proofs.BFieldElement.neg.Statement.{statement}
+use Rattle.field.proofs.BFieldElement.neg.Tie as tie
+
+sub-mod-p-requires : tie.Need-sub-mod-p-requires
+unfolding Good
+sub-mod-p-requires c κs = (lit< tt, le-of-lt (c .pre))
+
+returns : tie.Need-returns
+unfolding Good num reduced
+returns c = record {
+  good = c .sub-mod-p .ensures .1;
+  number =
+      ap reduced (c .sub-mod-p .ensures .0) ∙ num-sub 0 (c .before .args .self .0) (c .before .pre)
+      ∙ ap (λ (n : ℕ). n % P) (zero-add (P - num (c .before .args .self)));
+}
+
+pub neg-spec : {M : Type 1} → statement M
+neg-spec = tie.close (tie.spec sub-mod-p-requires returns)

@@ -1,0 +1,36 @@
+-- What a field element stands for. Its Montgomery word is seen by this file alone: everything else speaks of numbers below p.
+-- Document 01, "Field". Assumes nothing.
+use mathlib.Core.Path.{_≡_}
+use mathlib.Core.Bool.{Bool, true, false}
+use Prim.Native.Nat.{ℕ, _*_, _-_, _%_, _^_, _<_}
+use lib.Dec.{eqb}
+use Rattle.field.specs.declared.BFieldElement.{BFieldElement}
+use Rattle.field.specs.declared.Inverted.{Inverted}
+use Rattle.field.specs.declared.Inverted.the-variants.{Inverse, OfZero}
+use Rattle.field.specs.Field.{P, reduced}
+
+-- the word is canonical, as that of every element is that the functions make
+unfoldable pub Good : BFieldElement → Type 0
+Good e = e .0 < P
+
+-- the number that an element stands for
+unfoldable pub num : BFieldElement → ℕ
+num e = reduced (e .0)
+
+-- e is the element of the number v
+pub record Stands (e : BFieldElement) (v : ℕ) : Type 0 where
+  pub good : Good e
+  pub number : num e ≡ v
+
+-- the element of any number
+unfoldable pub element : ℕ → BFieldElement
+element v = record { 0 = (v * 2 ^ 64) % P }
+
+-- ---- the inverse
+abbrev pub choose : Bool → Inverted → Inverted → Inverted
+choose true a b = a
+choose false a b = b
+
+-- 0 has none; that of any other number x is x ^ (p - 2) (`inverse-right` of proofs/Inverses: it times x is 1)
+unfoldable pub inverted : ℕ → Inverted
+inverted x = choose (eqb x 0) OfZero (Inverse (element (x ^ (P - 2))))
