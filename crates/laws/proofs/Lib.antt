@@ -13,3 +13,6 @@ pub mod Rings
 pub mod RingSolver
 pub mod Sums
 pub mod Residues
+pub mod Halving
+pub mod Interpolation
+pub mod Convolution
