@@ -1,0 +1,5 @@
+-- Laws that the other crates cite as Rattle.ring.proofs.NAME.
+pub mod Residue
+pub mod Roots
+pub mod Transforms
+pub mod Products

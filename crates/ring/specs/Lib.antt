@@ -1,0 +1,4 @@
+-- What the ring's contracts and laws are written with.
+pub mod Transform
+pub mod Elements
+pub mod Matrices
