@@ -138,8 +138,7 @@ module _ (R : CRing) where
         at i l (inr g) = ap (λ w. a i ⊗ w) (b-ends (m - i) (omega arith)) ∙ mul-zero R (a i)
 
   -- q times X^N + 1
-  module _ (N : ℕ) (pos : 0 < N) (q e : ℕ → A) (q-ends : (i : ℕ) → N ≤ i → q i ≡ 𝟘)
-      (e-low : e 0 ≡ 𝟙) (e-top : e N ≡ 𝟙) (e-else : (i : ℕ) → i ≢ 0 → i ≢ N → e i ≡ 𝟘) where
+  module _ (N : ℕ) (pos : 0 < N) (q e : ℕ → A) (e-low : e 0 ≡ 𝟙) (e-top : e N ≡ 𝟙) (e-else : (i : ℕ) → i ≢ 0 → i ≢ N → e i ≡ 𝟘) where
     at-self : (m : ℕ) → q m ⊗ e (m - m) ≡ q m
     at-self m = ap (λ w. q m ⊗ w) (ap e (let g : m - m ≡ 0 = omega arith in g) ∙ e-low) ∙ R .mul-one (q m)
 
@@ -150,14 +149,20 @@ module _ (R : CRing) where
         ap (λ w. q i ⊗ w) (e-else (m - i) (omega arith) (omega arith)) ∙ mul-zero R (q i))
         ∙ at-self m
 
-    pub conv-modulus-high : (m : ℕ) → conv q e (N + m) ≡ q m
+    pub conv-modulus-high : (m : ℕ) → conv q e (N + m) ≡ q m ⊕ q (N + m)
     unfolding conv sum
     conv-modulus-high m =
-        (λ ι. sum-single R (N + m) (λ i. q i ⊗ e (N + m - i)) m (omega arith) (λ i l d.
-        ap (λ w. q i ⊗ w) (e-else (N + m - i) (omega arith) (omega arith)) ∙ mul-zero R (q i)) ι
-        ⊕ (at-self (N + m) ∙ q-ends (N + m) (omega arith)) ι)
-        ∙ R .add-zero (q m ⊗ e (N + m - m))
-        ∙ ap (λ w. q m ⊗ w) (ap e (let g : N + m - m ≡ N = omega arith in g) ∙ e-top) ∙ R .mul-one (q m)
+        λ ι. (sum-single R (N + m) (λ i. q i ⊗ e (N + m - i)) m (omega arith) (λ i l d.
+        ap (λ w. q i ⊗ w) (e-else (N + m - i) (omega arith) (omega arith)) ∙ mul-zero R (q i))
+        ∙ ap (λ w. q m ⊗ w) (ap e (let g : N + m - m ≡ N = omega arith in g) ∙ e-top) ∙ R .mul-one (q m)) ι
+        ⊕ at-self (N + m) ι
+
+  -- a polynomial q that X^N + 1 takes to nothing past X^N has nothing there
+  pub descend : (N : ℕ) → 0 < N → (q : ℕ → A) → ((i : ℕ) → N ≤ i → q i ⊕ q (N + i) ≡ 𝟘)
+      → (L : ℕ) → ((i : ℕ) → N + L ≤ i → q i ≡ 𝟘) → (i : ℕ) → N ≤ i → q i ≡ 𝟘
+  descend N pos q h zero ends i l = ends i (omega arith)
+  descend N pos q h (suc L) ends i l =
+      descend N pos q h L (λ j g. sym (R .add-zero (q j)) ∙ ap (λ w. q j ⊕ w) (sym (ends (N + j) (omega arith))) ∙ h j (omega arith)) i l
 
   -- b (G a) = (b G) a
   pub assoc-form : (n m : ℕ) (b : ℕ → A) (G : ℕ → ℕ → A) (a : ℕ → A)

@@ -16,3 +16,4 @@ pub mod Residues
 pub mod Halving
 pub mod Interpolation
 pub mod Convolution
+pub mod Bounds

@@ -3,3 +3,5 @@ pub mod Residue
 pub mod Roots
 pub mod Transforms
 pub mod Products
+pub mod Remainders
+pub mod Polynomials

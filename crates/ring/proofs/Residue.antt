@@ -12,6 +12,7 @@ use Rattle.laws.specs.Lists.{tab, Below}
 use Rattle.laws.specs.Rings.{CRing, poly, sum}
 use Rattle.laws.specs.Sums.{total}
 use Rattle.laws.proofs.Lists.{length-tab, getD-tab}
+use Rattle.laws.proofs.Bounds.{tab-below}
 use Rattle.laws.proofs.Residues.{mk, residues, mk-mod, mk-add, mk-mul}
 use Rattle.laws.proofs.Sums.{poly-front}
 use Rattle.field.specs.Field.{P, Coefficients}
@@ -33,16 +34,6 @@ co cs j = el (getD cs j 0)
 -- a list given by its remainders
 pub co-tab : (n : ℕ) (f : ℕ → ℕ) (k : ℕ) → k < n → co (tab n (λ i. f i % P)) k ≡ el (f k)
 co-tab n f k h = ap (λ m. el m) (getD-tab n (λ i. f i % P) 0 k h) ∙ mk-mod P p-pos (f k)
-
--- what is canonical
-pub tab-below : (b n : ℕ) (f : ℕ → ℕ) → 0 < b → ((k : ℕ) → k < n → f k < b) → Below b n (tab n f)
-tab-below b n f pos h = record { size = length-tab n f; each = λ i. at i (decLt i n) }
-  where
-    at : (i : ℕ) → Dec (i < n) → getD (tab n f) i 0 < b
-    at i (yes l) = subst (λ m. m < b) (sym (getD-tab n f 0 i l)) (h i l)
-    at i (no l) =
-        let q : length (tab n f) ≤ i = omega (arith, length-tab n f) in
-        subst (λ m. m < b) (sym (List·getD-eq-default (tab n f) 0 q)) pos
 
 pub remainders : (n : ℕ) (f : ℕ → ℕ) → Coefficients n (tab n (λ k. f k % P))
 remainders n f = tab-below P n (λ k. f k % P) p-pos (λ k l. mod-lt (f k) p-pos)

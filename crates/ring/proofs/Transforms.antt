@@ -8,6 +8,7 @@ use Rattle.laws.specs.Lists.{tab}
 use Rattle.laws.specs.Rings.{CRing, pow, sum, poly}
 use Rattle.laws.specs.Sums.{total}
 use Rattle.laws.proofs.Lists.{getD-tab}
+use Rattle.laws.proofs.Bounds.{tab-below}
 use Rattle.laws.proofs.Rings.{eq-of-sub, mul-zero, mul-left-comm}
 use Rattle.laws.proofs.Residues.{mk-mod, mk-mul, mk-val, mk-total, mk-pow}
 use Rattle.laws.proofs.Sums.{sum-ext, sum-scale, sum-scale-right, sum-swap, sum-single, pow-add, poly-ext, poly-add, poly-neg}
@@ -15,7 +16,7 @@ use Rattle.laws.proofs.Halving.{dbl}
 use Rattle.laws.proofs.Interpolation.{vanish, interp, interp-value}
 use Rattle.field.specs.Field.{P, Coefficients}
 use Rattle.ring.specs.Transform.{psi, brv, value, point, transform, inv64, untransform}
-use Rattle.ring.proofs.Residue.{F, el, co, p-pos, same, tab-below, remainders, value-below, value-is}
+use Rattle.ring.proofs.Residue.{F, el, co, p-pos, same, remainders, value-below, value-is}
 use Rattle.ring.proofs.Roots.{W, U, roots, heap-leaf, half, two-halves, sixty-fourth, powers, powers-zero, powers-128}
 
 -- output k is the polynomial's value at psi^(2·brv(k)+1)
