@@ -1,5 +1,5 @@
 -- Lists of n numbers, each below a bound. Assumes nothing.
-use mathlib.Core.Path.{_≡_, sym, subst}
+use mathlib.Core.Path.{sym, subst}
 use mathlib.Core.List.{List}
 use mathlib.Core.Logic.{⊎-elim}
 use Prim.Native.Nat.{ℕ, _≤_, _<_}

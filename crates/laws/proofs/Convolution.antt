@@ -1,16 +1,16 @@
 -- The product of two polynomials over any commutative ring, plain and modulo X^N + 1; and the identity of matrix products on which the opening
 -- of a packet rests. Assumes nothing.
 use mathlib.Core.Path.{_≡_, refl, sym, _∙_, ap, subst}
-use mathlib.Core.List.{List, [], _∷_}
+use mathlib.Core.List.{[], _∷_}
 use mathlib.Core.Bool.{Bool, true, false}
 use mathlib.Core.Logic.{_≢_, _⊎_, inl, inr}
-use Prim.Native.Nat.{ℕ, zero, suc, _+_, _*_, _-_, _≤_, _<_}
+use Prim.Native.Nat.{ℕ, zero, suc, _+_, _-_, _≤_, _<_}
 use native.Mathlib.Nat.{add-sub-cancel-left}
 use native.Mathlib.Omega.{arith}
 use lib.Dec.{leb, T, le→leb, leb→le}
 use Rattle.laws.specs.Rings.{CRing, pow, sum, poly}
 use Rattle.laws.proofs.Orders.{le-or-lt}
-use Rattle.laws.proofs.Rings.{ring, zero-add, mul-zero, zero-mul, mul-left-comm, mul-neg, add-mul}
+use Rattle.laws.proofs.Rings.{ring, zero-add, mul-zero, zero-mul, mul-neg, add-mul}
 use Rattle.laws.proofs.RingSolver.{v, _:+_, :-_, ring-eq}
 use Rattle.laws.proofs.Sums.{sum-ext, sum-add, sum-scale, sum-scale-right, sum-neg, sum-split, sum-swap, sum-none, sum-single, pow-add, poly-ext, poly-neg, poly-split}
 

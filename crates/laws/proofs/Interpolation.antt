@@ -1,7 +1,7 @@
 -- A polynomial with 2^d coefficients is given by its values at the 2^d leaves below a node: at most one has them (vanish), and one has (interp).
 -- Over any commutative ring with a half. Assumes nothing.
 use mathlib.Core.Path.{_≡_, refl, sym, _∙_, ap, subst}
-use mathlib.Core.List.{List, [], _∷_}
+use mathlib.Core.List.{[], _∷_}
 use mathlib.Core.Bool.{Bool, true, false}
 use Prim.Native.Nat.{ℕ, zero, suc, _+_, _*_, _-_, _≤_, _<_}
 use native.Mathlib.Nat.{add-sub-cancel-left}
@@ -9,7 +9,7 @@ use native.Mathlib.Decide.{decLt}
 use native.Mathlib.Omega.{arith}
 use lib.Dec.{ltb, T, lt→ltb, ltb→lt}
 use Rattle.laws.specs.Rings.{CRing, poly}
-use Rattle.laws.proofs.Rings.{ring, one-mul, add-mul}
+use Rattle.laws.proofs.Rings.{ring}
 use Rattle.laws.proofs.RingSolver.{v, _:+_, _:*_, :-_, ring-eq}
 use Rattle.laws.proofs.Sums.{poly-one, poly-ext, poly-scale}
 use Rattle.laws.proofs.Halving.{dbl, Roots, leaf-pow, inner, fwd-left, fwd-right, bwd-left, bwd-right}

@@ -1,7 +1,7 @@
 -- The numbers below m, for any m above 0, as a commutative ring; `mk` takes any number there and keeps sums and products. Assumes nothing.
 use mathlib.Core.Path.{_≡_, refl, sym, _∙_, ap}
 use mathlib.Core.HLevel.{Σ-prop-path}
-use Prim.Native.Nat.{ℕ, zero, suc, _+_, _*_, _-_, _%_, _^_, _≤_, _<_}
+use Prim.Native.Nat.{ℕ, zero, suc, _+_, _*_, _-_, _%_, _^_, _<_}
 use native.Mathlib.Nat.{mod-lt, mod-mod, mod-eq-of-lt, mod-add-mod, add-mod-mod, add-assoc, add-comm, add-zero, mul-comm, mul-assoc, mul-one, mul-add, mod-self, add-sub-of-le, le-of-lt, zero-mod, pow-zero, pow-suc}
 use native.Mathlib.Bridge.{le-prop}
 use native.Mathlib.Omega.{arith}

@@ -3,3 +3,4 @@ pub mod Lists
 pub mod Congruence
 pub mod Rings
 pub mod Sums
+pub mod Points

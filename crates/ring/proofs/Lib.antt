@@ -5,3 +5,5 @@ pub mod Transforms
 pub mod Products
 pub mod Remainders
 pub mod Polynomials
+pub mod Cells
+pub mod Matrices

@@ -8,7 +8,6 @@ use lib.Dec.{lit<}
 use lib.ListN.{length, getD, List·getD-eq-default}
 use Rattle.laws.specs.Lists.{tab, tabFrom}
 use Rattle.laws.specs.Congruence.{Cong}
-use Rattle.laws.specs.Rings.{CRing}
 use Rattle.laws.proofs.Orders.{le-or-lt}
 use Rattle.laws.proofs.Tests.{equal-at}
 use Rattle.laws.proofs.Lists.{getD-tab, length-tab}

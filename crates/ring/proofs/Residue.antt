@@ -1,17 +1,14 @@
 -- The numbers below p as the ring F, in which the mathematics of this crate is done, and how lists of numbers stand for its elements. Assumes nothing.
 use mathlib.Core.Path.{_≡_, refl, sym, _∙_, ap, subst}
 use mathlib.Core.List.{List, [], _∷_}
-use Prim.Native.Nat.{ℕ, _+_, _*_, _-_, _%_, _<_, _≤_}
+use Prim.Native.Nat.{ℕ, _+_, _*_, _%_, _<_}
 use native.Mathlib.Nat.{mod-lt, mod-eq-of-lt}
-use native.Mathlib.Decide.{decLt}
-use native.Mathlib.Omega.{arith}
 use lib.Dec.{lit<}
-use lib.ListN.{length, getD, List·getD-eq-default}
+use lib.ListN.{length, getD}
 use lib.Seq.{ext-getD}
-use Rattle.laws.specs.Lists.{tab, Below}
+use Rattle.laws.specs.Lists.{tab}
 use Rattle.laws.specs.Rings.{CRing, poly, sum}
-use Rattle.laws.specs.Sums.{total}
-use Rattle.laws.proofs.Lists.{length-tab, getD-tab}
+use Rattle.laws.proofs.Lists.{getD-tab}
 use Rattle.laws.proofs.Bounds.{tab-below}
 use Rattle.laws.proofs.Residues.{mk, residues, mk-mod, mk-add, mk-mul}
 use Rattle.laws.proofs.Sums.{poly-front}

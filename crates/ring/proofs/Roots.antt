@@ -3,17 +3,17 @@
 use mathlib.Core.Path.{_≡_, refl, sym, _∙_, ap}
 use mathlib.Core.Bool.{Bool, true, false}
 use mathlib.Core.Logic.{_≢_}
-use Prim.Native.Nat.{ℕ, zero, suc, _+_, _*_, _-_, _^_, _/_, _%_, _≤_, _<_}
+use Prim.Native.Nat.{ℕ, _+_, _*_, _-_, _^_, _/_, _%_, _<_}
 use native.Mathlib.Omega.{arith}
 use lib.Dec.{eqb, eqb→eq, T, lit<}
-use Rattle.laws.specs.Rings.{CRing, pow, sum, poly}
+use Rattle.laws.specs.Rings.{pow, sum}
 use Rattle.laws.specs.Sums.{total}
-use Rattle.laws.proofs.Tests.{all, all-at, equal-at}
+use Rattle.laws.proofs.Tests.{equal-at}
 use Rattle.laws.proofs.Residues.{residue-path, mk-eq, mk-mul, mk-neg, mk-total, mk-pow}
 use Rattle.laws.proofs.Sums.{sum-ext}
 use Rattle.laws.proofs.Halving.{dbl, Roots, leaf-pow}
 use Rattle.field.specs.Field.{P}
-use Rattle.ring.specs.Transform.{psi, brv, point, zeta, zeta-inv, inv64}
+use Rattle.ring.specs.Transform.{brv, point, zeta, zeta-inv, inv64}
 use Rattle.ring.proofs.Residue.{F, el, p-pos}
 
 -- the numbers of the tree, in heap order: node n + n has zeta n, node n + n + 1 has - zeta n

@@ -1,11 +1,11 @@
 -- The transform and its inverse undo each other on 64 canonical numbers, and a polynomial is given by its 64 values. Assumes nothing.
-use mathlib.Core.Path.{_≡_, refl, sym, _∙_, ap}
+use mathlib.Core.Path.{_≡_, sym, _∙_, ap}
 use mathlib.Core.List.{List}
 use Prim.Native.Nat.{ℕ, _+_, _*_, _-_, _^_, _%_, _<_}
 use native.Mathlib.Omega.{arith}
-use lib.ListN.{length, getD}
+use lib.ListN.{getD}
 use Rattle.laws.specs.Lists.{tab}
-use Rattle.laws.specs.Rings.{CRing, pow, sum, poly}
+use Rattle.laws.specs.Rings.{pow, sum, poly}
 use Rattle.laws.specs.Sums.{total}
 use Rattle.laws.proofs.Lists.{getD-tab}
 use Rattle.laws.proofs.Bounds.{tab-below}

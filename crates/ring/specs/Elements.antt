@@ -1,6 +1,6 @@
 -- Ring elements as lists of 64 canonical numbers: sums, differences, pointwise products, and the product modulo X^64 + 1 and p.
 -- Document 01, "Transform" and "Carried over". Assumes nothing.
-use mathlib.Core.Bool.{Bool, true, false}
+use mathlib.Core.Bool.{true, false}
 use mathlib.Core.List.{List}
 use Prim.Native.Nat.{ℕ, suc, _+_, _*_, _-_, _%_}
 use lib.Dec.{eqb, leb}
