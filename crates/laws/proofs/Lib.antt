@@ -9,3 +9,11 @@ pub mod Powers
 pub mod Pigeonhole
 pub mod ModularSolver
 pub mod Generators
+pub mod Rings
+pub mod RingSolver
+pub mod Sums
+pub mod Residues
+pub mod Halving
+pub mod Interpolation
+pub mod Convolution
+pub mod Bounds

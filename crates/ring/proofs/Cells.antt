@@ -1,0 +1,72 @@
+-- The elements of a flat list of ring elements. Assumes nothing.
+use mathlib.Core.Path.{_≡_, sym, _∙_, ap}
+use mathlib.Core.List.{List}
+use Prim.Native.Nat.{ℕ, _+_, _*_, _-_, _/_, _%_, _≤_, _<_}
+use native.Mathlib.Omega.{arith}
+use lib.ListN.{length, getD}
+use Rattle.laws.proofs.Lists.{length-tab, getD-tab, is-tab, tab-ext}
+use Rattle.laws.proofs.Bounds.{tab-below}
+use Rattle.field.specs.Field.{P, Coefficients}
+use Rattle.ring.specs.Transform.{transform}
+use Rattle.ring.specs.Elements.{plus, minus}
+use Rattle.ring.specs.Matrices.{cell, flat, transforms}
+use Rattle.ring.proofs.Residue.{p-pos}
+use Rattle.ring.proofs.Transforms.{transform-canonical}
+
+pub cell-at : (l : List ℕ) (i k : ℕ) → k < 64 → getD (cell l i) k 0 ≡ getD l (i * 64 + k) 0
+unfolding cell
+cell-at l i k h = getD-tab 64 (λ n. getD l (i * 64 + n) 0) 0 k h
+
+pub cell-canonical : (l : List ℕ) → ((i : ℕ) → getD l i 0 < P) → (i : ℕ) → Coefficients 64 (cell l i)
+unfolding cell
+cell-canonical l h i = tab-below P 64 (λ n. getD l (i * 64 + n) 0) p-pos (λ n q. h (i * 64 + n))
+
+-- a list of 64 is its own element 0
+pub cell-whole : (l : List ℕ) → length l ≡ 64 → cell l 0 ≡ l
+unfolding cell
+cell-whole l h = sym (is-tab 64 (λ n. getD l (0 * 64 + n) 0) 0 l h (λ k q. let e : k ≡ 0 * 64 + k = omega arith in ap (λ n. getD l n 0) e))
+
+pub flat-at : (n : ℕ) (f : ℕ → List ℕ) (i k : ℕ) → i < n → k < 64 → getD (flat n f) (i * 64 + k) 0 ≡ getD (f i) k 0
+unfolding flat
+flat-at n f i k h q =
+    let s : i * 64 + k < n * 64 = omega arith in
+    let e : (i * 64 + k) / 64 ≡ i = omega arith in
+    let o : (i * 64 + k) % 64 ≡ k = omega arith in
+    getD-tab (n * 64) (λ x. getD (f (x / 64)) (x % 64) 0) 0 (i * 64 + k) s ∙ (λ j. getD (f (e j)) (o j) 0)
+
+pub flat-length : (n : ℕ) (f : ℕ → List ℕ) → length (flat n f) ≡ n * 64
+unfolding flat
+flat-length n f = length-tab (n * 64) (λ x. getD (f (x / 64)) (x % 64) 0)
+
+pub flat-ext : (n : ℕ) (f g : ℕ → List ℕ) → ((i : ℕ) → i < n → f i ≡ g i) → flat n f ≡ flat n g
+unfolding flat
+flat-ext n f g e = tab-ext (n * 64) _ _ (λ x h. ap (λ l. getD l (x % 64) 0) (e (x / 64) (let q : x / 64 < n = omega arith in q)))
+
+pub flat-canonical : (n : ℕ) (f : ℕ → List ℕ) → ((i : ℕ) → i < n → Coefficients 64 (f i)) → Coefficients (n * 64) (flat n f)
+unfolding flat
+flat-canonical n f h =
+    tab-below P (n * 64) (λ x. getD (f (x / 64)) (x % 64) 0) p-pos (λ x q. h (x / 64) (let l : x / 64 < n = omega arith in l) .each (x % 64))
+
+pub cell-flat : (n : ℕ) (f : ℕ → List ℕ) (i : ℕ) → i < n → length (f i) ≡ 64 → cell (flat n f) i ≡ f i
+unfolding cell
+cell-flat n f i h e = sym (is-tab 64 (λ k. getD (flat n f) (i * 64 + k) 0) 0 (f i) e (λ k q. sym (flat-at n f i k h q)))
+
+pub cell-transforms : (n : ℕ) (l : List ℕ) (i : ℕ) → i < n → cell (transforms n l) i ≡ transform (cell l i)
+unfolding transforms
+cell-transforms n l i h = cell-flat n (λ i. transform (cell l i)) i h (transform-canonical (cell l i) .size)
+
+pub transforms-canonical : (n : ℕ) (l : List ℕ) → Coefficients (n * 64) (transforms n l)
+unfolding transforms
+transforms-canonical n l = flat-canonical n (λ i. transform (cell l i)) (λ i h. transform-canonical (cell l i))
+
+-- element i of a sum of m coefficients, and of a difference
+module _ (m : ℕ) (u w : List ℕ) (i : ℕ) (h : i * 64 + 64 ≤ m) where
+  pub cell-plus : cell (plus m u w) i ≡ plus 64 (cell u i) (cell w i)
+  unfolding cell plus
+  cell-plus = tab-ext 64 _ _ (λ k g.
+      getD-tab m (λ x. (getD u x 0 + getD w x 0) % P) 0 (i * 64 + k) (omega arith) ∙ (λ j. (sym (cell-at u i k g) j + sym (cell-at w i k g) j) % P))
+
+  pub cell-minus : cell (minus m u w) i ≡ minus 64 (cell u i) (cell w i)
+  unfolding cell minus
+  cell-minus = tab-ext 64 _ _ (λ k g.
+      getD-tab m (λ x. (getD u x 0 + (P - getD w x 0)) % P) 0 (i * 64 + k) (omega arith) ∙ (λ j. (sym (cell-at u i k g) j + (P - sym (cell-at w i k g) j)) % P))

@@ -1,0 +1,9 @@
+-- Laws that the other crates cite as Rattle.ring.proofs.NAME.
+pub mod Residue
+pub mod Roots
+pub mod Transforms
+pub mod Products
+pub mod Remainders
+pub mod Polynomials
+pub mod Cells
+pub mod Matrices

@@ -1,0 +1,5 @@
+-- What the ring's contracts and laws are written with.
+pub mod Transform
+pub mod Elements
+pub mod Matrices
+pub mod Points
