@@ -12,6 +12,7 @@ pub mod Generators
 pub mod Rings
 pub mod RingSolver
 pub mod Sums
+pub mod Digits
 pub mod Residues
 pub mod Halving
 pub mod Interpolation

@@ -3,4 +3,5 @@ pub mod Lists
 pub mod Congruence
 pub mod Rings
 pub mod Sums
+pub mod Digits
 pub mod Points

@@ -1,0 +1,2 @@
+-- Laws of the layouts.
+pub mod Layouts

@@ -1,0 +1,2 @@
+-- What the byte layouts are written with.
+pub mod Layout

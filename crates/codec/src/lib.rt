@@ -1,0 +1,66 @@
+// Numbers of 64 bits as eight bytes, lowest first.
+ghost use mathlib.Core.Path.{_≡_};
+ghost use Prim.Native.Nat.{_+_, _*_, _<_, _≤_};
+ghost use lib.ListN.{length};
+ghost use Rattle.codec.specs.Layout.{word, words, bytes, with-word};
+
+// A byte as a number: asks for no proof that it fits.
+fn wide(x: u8) -> u64
+    ensures { λ r. ⌜ (r ≡ x) × (r < 256) ⌝ }
+{
+    x as u64
+}
+
+// The number in the eight bytes from `at` on. The sum becomes one load.
+pub fn load(s: &[u8], at: usize) -> u64
+    requires { ⌜ at + 8 ≤ length (now s) ⌝ }
+    ensures { λ r. ⌜ r ≡ word (now (s .entry)) at ⌝ }
+{
+    wide(s[at])
+        + wide(s[at + 1]) * 0x100
+        + wide(s[at + 2]) * 0x1_0000
+        + wide(s[at + 3]) * 0x100_0000
+        + wide(s[at + 4]) * 0x1_0000_0000
+        + wide(s[at + 5]) * 0x100_0000_0000
+        + wide(s[at + 6]) * 0x1_0000_0000_0000
+        + wide(s[at + 7]) * 0x100_0000_0000_0000
+}
+
+// Puts the eight bytes of x from `at` on. They become one store.
+pub fn store(out: &mut [u8], at: usize, x: u64)
+    requires { ⌜ at + 8 ≤ length (now out) ⌝ }
+    ensures { λ _. ⌜ now (out .exit) ≡ with-word (now (out .entry)) at x ⌝ }
+{
+    out[at] = (x % 0x100) as u8;
+    out[at + 1] = (x / 0x100 % 0x100) as u8;
+    out[at + 2] = (x / 0x1_0000 % 0x100) as u8;
+    out[at + 3] = (x / 0x100_0000 % 0x100) as u8;
+    out[at + 4] = (x / 0x1_0000_0000 % 0x100) as u8;
+    out[at + 5] = (x / 0x100_0000_0000 % 0x100) as u8;
+    out[at + 6] = (x / 0x1_0000_0000_0000 % 0x100) as u8;
+    out[at + 7] = (x / 0x100_0000_0000_0000 % 0x100) as u8;
+}
+
+// The numbers in bytes.
+pub fn unpack(s: &[u8], out: &mut [u64])
+    requires { ⌜ length (now s) ≡ 8 * length (now out) ⌝ }
+    ensures { λ _. ⌜ now (out .exit) ≡ words (now (s .entry)) ⌝ }
+{
+    let mut i = 0;
+    while i < out.len() {
+        out[i] = load(s, 8 * i);
+        i += 1;
+    }
+}
+
+// The bytes of numbers.
+pub fn pack(w: &[u64], out: &mut [u8])
+    requires { ⌜ length (now out) ≡ 8 * length (now w) ⌝ }
+    ensures { λ _. ⌜ now (out .exit) ≡ bytes (now (w .entry)) ⌝ }
+{
+    let mut i = 0;
+    while i < w.len() {
+        store(out, 8 * i, w[i]);
+        i += 1;
+    }
+}
