@@ -7,3 +7,6 @@ pub mod Remainders
 pub mod Polynomials
 pub mod Cells
 pub mod Matrices
+pub mod Blocks
+pub mod Forward
+pub mod Tables
