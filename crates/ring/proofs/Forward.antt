@@ -22,16 +22,16 @@ use Rattle.ring.proofs.Roots.{heap, W, roots, heap-even, place-64}
 use Rattle.ring.proofs.Transforms.{transform-canonical, transform-value}
 use Rattle.ring.proofs.Blocks.{rule-low, rule-high, stage-below, block-fits, entry-fits}
 
-pub sum-below : (z u w : ℕ) → sum-of z u w < P
-sum-below z u w = mod-lt (u + z * w % P) p-pos
+forward-below : (z u w : ℕ) → (sum-of z u w < P) × (difference-of z u w < P)
+forward-below z u w = (mod-lt _ p-pos, mod-lt _ p-pos)
 
-pub difference-below : (z u w : ℕ) → difference-of z u w < P
-difference-below z u w = mod-lt (u + (P - z * w % P)) p-pos
+-- what a stage stores is canonical
+pub forward-at-below : (m t : ℕ) (l : List ℕ) (x : ℕ) → stage-at sum-of difference-of zeta m t l x < P
+forward-at-below = stage-below P sum-of difference-of (λ z u w. forward-below z u w .0) (λ z u w. forward-below z u w .1) zeta
 
 pub forward-canonical : (m t : ℕ) (l : List ℕ) → Coefficients 64 (forward m t l)
 unfolding forward
-forward-canonical m t l =
-    tab-below P 64 (stage-at sum-of difference-of zeta m t l) p-pos (λ k h. stage-below P sum-of difference-of sum-below difference-below zeta m t l k)
+forward-canonical m t l = tab-below P 64 (stage-at sum-of difference-of zeta m t l) p-pos (λ k h. forward-at-below m t l k)
 
 -- a butterfly over F
 el-sum : (z u w : ℕ) → el (sum-of z u w) ≡ F .add (el u) (F .mul (el w) (el z))

@@ -10,3 +10,4 @@ pub mod Matrices
 pub mod Blocks
 pub mod Forward
 pub mod Tables
+pub mod Backward

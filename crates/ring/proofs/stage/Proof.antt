@@ -1,15 +1,15 @@
+-- `stage` is `forward`, block by block. Assumes nothing.
 use borrow.Author.Needs.{needs}
 use native.Mathlib.Omega.{arith}
 use Prim.Native.Nat.{_+_, _*_, _-_, _≤_, _<_}
 use mathlib.Core.Path.{_≡_, _∙_, ap}
 use Rattle.laws.proofs.Updates.{Filled}
 use Rattle.laws.proofs.Bounds.{mapped-below}
-use Rattle.field.specs.Field.{P}
 use Rattle.field.specs.Element.{num}
 use Rattle.ring.specs.Transform.{zeta}
 use Rattle.ring.specs.Stages.{sum-of, difference-of, stage-at, forward}
-use Rattle.ring.proofs.Blocks.{stage-none, stage-more, stage-all, block-fits, entry-fits, stage-below}
-use Rattle.ring.proofs.Forward.{sum-below, difference-below}
+use Rattle.ring.proofs.Blocks.{stage-none, stage-more, stage-all, block-fits, entry-fits}
+use Rattle.ring.proofs.Forward.{forward-at-below}
 use Rattle.ring.proofs.Tables.{zeta-entry}
 use Rattle.ring.proofs.stage.Statement.{statement}
 use Rattle.ring.proofs.stage.Tie as tie
@@ -49,7 +49,7 @@ butterflies-requires : tie.Need-butterflies-requires Inv-loop μ-loop
 butterflies-requires c κs =
     let k = c .before .before .before in
     let start = k .before .before .before in (
-      mapped-below (stage-below P sum-of difference-of sum-below difference-below zeta (start .args .m) (start .args .t) (start .args .array .now)) (start .pre .0) (k .before .loop .inv .1),
+      mapped-below (forward-at-below (start .args .m) (start .args .t) (start .args .array .now)) (start .pre .0) (k .before .loop .inv .1),
       (room k, c .before .new .ensures .good),
     )
 
@@ -68,7 +68,7 @@ returns c =
     let l = c .before .loop in
     let start = c .before .before .before in
     let e = stage-all sum-of difference-of zeta (start .args .m) (start .args .t) (start .args .array .now) (l .i) (l .array) (omega arith) (start .pre .1 .1) (start .pre .0 .size) (l .inv .1) in
-    (e, mapped-below (stage-below P sum-of difference-of sum-below difference-below zeta (start .args .m) (start .args .t) (start .args .array .now)) (start .pre .0) (l .inv .1))
+    (e, mapped-below (forward-at-below (start .args .m) (start .args .t) (start .args .array .now)) (start .pre .0) (l .inv .1))
 
 pub stage-spec : {M : Type 1} → statement M
 stage-spec =
