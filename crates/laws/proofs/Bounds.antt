@@ -1,5 +1,5 @@
 -- Lists of n numbers, each below a bound. Assumes nothing.
-use mathlib.Core.Path.{sym, _∙_, subst}
+use mathlib.Core.Path.{_≡_, sym, _∙_, subst}
 use mathlib.Core.List.{List}
 use mathlib.Core.Logic.{⊎-elim}
 use Prim.Native.Nat.{ℕ, _≤_, _<_}
@@ -37,3 +37,7 @@ mapped-below {b} {n} {i} {g} {old} {new} h l m = record {
       (λ q. subst (λ (x : ℕ). x < b) (sym (m .passed j q)) (h j))
       (le-or-lt i j);
 }
+
+-- of a list that is known to be another
+pub below-as : {b n : ℕ} {k l : List ℕ} → k ≡ l → Below b n l → Below b n k
+below-as {b} {n} e h = subst (λ (x : List ℕ). Below b n x) (sym e) h

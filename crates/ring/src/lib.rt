@@ -245,3 +245,54 @@ pub fn coset_intt_noswap_64(array: &mut [u64])
     unstages(array);
     scale(array, BFieldElement::new(N_INV));
 }
+
+pub fn copy(from: &[u64], to: &mut [u64])
+    requires { ⌜ length (now from) ≡ length (now to) ⌝ }
+    ensures { λ r. ⌜ now (to .exit) ≡ now (from .entry) ⌝ }
+{
+    for i in 0..to.len() {
+        to[i] = from[i];
+    }
+}
+
+// Of any number of coefficients: 64 for a ring element, 256 for a vector of four.
+pub fn add_assign(lhs: &mut [u64], rhs: &[u64])
+    requires { ⌜ Coefficients (length (now lhs)) (now lhs) × Coefficients (length (now lhs)) (now rhs) ⌝ }
+    ensures { λ r. ⌜ now (lhs .exit) ≡ plus (length (now (lhs .entry))) (now (lhs .entry)) (now (rhs .entry)) ⌝ }
+{
+    for i in 0..lhs.len() {
+        lhs[i] = field::add_mod_p(lhs[i], rhs[i]);
+    }
+}
+
+pub fn sub_assign(lhs: &mut [u64], rhs: &[u64])
+    requires { ⌜ Coefficients (length (now lhs)) (now lhs) × Coefficients (length (now lhs)) (now rhs) ⌝ }
+    ensures { λ r. ⌜ now (lhs .exit) ≡ minus (length (now (lhs .entry))) (now (lhs .entry)) (now (rhs .entry)) ⌝ }
+{
+    for i in 0..lhs.len() {
+        lhs[i] = field::sub_mod_p(lhs[i], rhs[i]);
+    }
+}
+
+pub fn hadamard_assign(lhs: &mut [u64], rhs: &[u64])
+    requires { ⌜ Coefficients 64 (now lhs) × Coefficients 64 (now rhs) ⌝ }
+    ensures { λ r. ⌜ now (lhs .exit) ≡ hadamard (now (lhs .entry)) (now (rhs .entry)) ⌝ }
+{
+    for i in 0..64 {
+        lhs[i] = BFieldElement::new(lhs[i]).scaled(rhs[i]);
+    }
+}
+
+// The product in the ring, through the transforms.
+pub fn multiply(lhs: &[u64], rhs: &[u64], out: &mut [u64])
+    requires { ⌜ Coefficients 64 (now lhs) × Coefficients 64 (now rhs) × (length (now out) ≡ 64) ⌝ }
+    ensures { λ r. ⌜ now (out .exit) ≡ product (now (lhs .entry)) (now (rhs .entry)) ⌝ }
+{
+    let mut other = [0u64; 64];
+    copy(lhs, out);
+    copy(rhs, &mut other);
+    coset_ntt_noswap_64(out);
+    coset_ntt_noswap_64(&mut other);
+    hadamard_assign(out, &other);
+    coset_intt_noswap_64(out);
+}
