@@ -2,7 +2,7 @@
 // product of matrices of them. A ring element is 64 canonical numbers, a matrix one flat slice of ring elements, row by row.
 use field::BFieldElement;
 ghost use mathlib.Core.Path.{_≡_};
-ghost use Prim.Native.Nat.{ℕ, _+_, _*_, _<_, _≤_};
+ghost use Prim.Native.Nat.{ℕ, _+_, _*_, _%_, _<_, _≤_};
 ghost use lib.ListN.{length, getD};
 ghost use Rattle.laws.specs.Lists.{tab};
 ghost use Rattle.field.specs.Field.{P, Coefficients};
@@ -295,4 +295,69 @@ pub fn multiply(lhs: &[u64], rhs: &[u64], out: &mut [u64])
     coset_ntt_noswap_64(&mut other);
     hadamard_assign(out, &other);
     coset_intt_noswap_64(out);
+}
+
+pub fn add(lhs: &[u64], rhs: &[u64], out: &mut [u64])
+    requires { ⌜ Coefficients 64 (now lhs) × Coefficients 64 (now rhs) × (length (now out) ≡ 64) ⌝ }
+    ensures { λ r. ⌜ now (out .exit) ≡ plus 64 (now (lhs .entry)) (now (rhs .entry)) ⌝ }
+{
+    copy(lhs, out);
+    add_assign(out, rhs);
+}
+
+pub fn sub(lhs: &[u64], rhs: &[u64], out: &mut [u64])
+    requires { ⌜ Coefficients 64 (now lhs) × Coefficients 64 (now rhs) × (length (now out) ≡ 64) ⌝ }
+    ensures { λ r. ⌜ now (out .exit) ≡ minus 64 (now (lhs .entry)) (now (rhs .entry)) ⌝ }
+{
+    copy(lhs, out);
+    sub_assign(out, rhs);
+}
+
+pub fn hadamard(lhs: &[u64], rhs: &[u64], out: &mut [u64])
+    requires { ⌜ Coefficients 64 (now lhs) × Coefficients 64 (now rhs) × (length (now out) ≡ 64) ⌝ }
+    ensures { λ r. ⌜ now (out .exit) ≡ hadamard (now (lhs .entry)) (now (rhs .entry)) ⌝ }
+{
+    copy(lhs, out);
+    hadamard_assign(out, rhs);
+}
+
+// Four coefficients of a vector as field elements, to be multiplied by several plain numbers each.
+struct Words {
+    w0: BFieldElement,
+    w1: BFieldElement,
+    w2: BFieldElement,
+    w3: BFieldElement,
+}
+
+// Their products with the coefficients of a matrix that stand at at, at + step, at + 2 step and at + 3 step, added up.
+fn combined(words: Words, matrix: &[u64], at: usize, step: usize) -> u64
+    requires { ⌜ Good (words .w0) × Good (words .w1) × Good (words .w2) × Good (words .w3) × (at + 3 * step < length (now matrix)) ⌝ }
+    ensures { λ r. ⌜ r ≡ (num (words .w0) * getD (now (matrix .entry)) at 0 + num (words .w1) * getD (now (matrix .entry)) (at + step) 0
+        + num (words .w2) * getD (now (matrix .entry)) (at + 2 * step) 0 + num (words .w3) * getD (now (matrix .entry)) (at + 3 * step) 0) % P ⌝ }
+{
+    let a = words.w0.scaled(matrix[at]);
+    let b = words.w1.scaled(matrix[at + step]);
+    let c = words.w2.scaled(matrix[at + 2 * step]);
+    let d = words.w3.scaled(matrix[at + 3 * step]);
+    field::add_mod_p(field::add_mod_p(a, b), field::add_mod_p(c, d))
+}
+
+// A vector of four ring elements times a matrix: element e of out is the sum over q of vector element q times matrix element
+// e·row + q·step. Each coefficient of the vector becomes a field element once, for all of out.
+fn vector_times(vector: &[u64], matrix: &[u64], out: &mut [u64], count: usize, row: usize, step: usize)
+    requires { ⌜ Coefficients 256 (now vector) × (length (now out) ≡ count * 64) ⌝ }
+    requires { ⌜ (count * row + 3 * step + 1) * 64 ≤ length (now matrix) + row * 64 ⌝ }
+    ensures { λ r. ⌜ now (out .exit) ≡ flat count (λ e. dot 4 (cell (now (vector .entry))) (λ q. cell (now (matrix .entry)) (e * row + q * step))) ⌝ }
+{
+    'places: for k in 0..64 {
+        let words = Words {
+            w0: BFieldElement::new(vector[k]),
+            w1: BFieldElement::new(vector[64 + k]),
+            w2: BFieldElement::new(vector[128 + k]),
+            w3: BFieldElement::new(vector[192 + k]),
+        };
+        'elements: for e in 0..count {
+            out[e * 64 + k] = combined(words, matrix, e * row * 64 + k, step * 64);
+        }
+    }
 }
