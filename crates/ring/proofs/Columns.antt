@@ -21,45 +21,41 @@ four a b c d =
     mod-ring P p-pos (a ∷ b ∷ c ∷ d ∷ []) (rem (rem (at 0) ⊞ rem (at 1)) ⊞ rem (rem (at 2) ⊞ rem (at 3))) (at 0 ⊞ at 1 ⊞ at 2 ⊞ at 3) refl
 
 -- places 0 to k - 1 of all elements are made by the rule g, and place k of the first e
-pub record Columns (g : ℕ → ℕ → ℕ) (count k e : ℕ) (old new : List ℕ) : Type 0 where
-  pub same-length : length new ≡ length old
-  pub passed : (i j : ℕ) → i < count → j < k → getD new (i * 64 + j) 0 ≡ g i j
-  pub begun : (i : ℕ) → i < e → getD new (i * 64 + k) 0 ≡ g i k
+pub record Columns (g : ℕ → ℕ → ℕ) (count k e : ℕ) (l : List ℕ) : Type 0 where
+  pub size : length l ≡ count * 64
+  pub passed : (i j : ℕ) → i < count → j < k → getD l (i * 64 + j) 0 ≡ g i j
+  pub begun : (i : ℕ) → i < e → getD l (i * 64 + k) 0 ≡ g i k
 
-module _ {g : ℕ → ℕ → ℕ} {count : ℕ} {old : List ℕ} where
-  pub columns-none : Columns g count 0 0 old old
-  columns-none = record { same-length = refl; passed = λ i j h q. absurd (omega arith); begun = λ i h. absurd (omega arith) }
+module _ {g : ℕ → ℕ → ℕ} {count : ℕ} {l : List ℕ} where
+  pub columns-none : length l ≡ count * 64 → Columns g count 0 0 l
+  columns-none h = record { size = h; passed = λ i j h q. absurd (omega arith); begun = λ i h. absurd (omega arith) }
 
-  pub columns-more : {k e v : ℕ} {new : List ℕ} → e < count → k < 64 → length old ≡ count * 64 → v ≡ g e k → Columns g count k e old new → Columns g count k (e + 1) old (set new (e * 64 + k) v)
-  columns-more {k} {e} {v} {new} he hk size h c = record {
-      same-length = length-set new (e * 64 + k) v ∙ c .same-length;
-      passed = λ i j q r. getD-set-other new (e * 64 + k) (i * 64 + j) v 0 (λ x. omega arith) ∙ c .passed i j q r;
-      begun = λ i q. at-place i q (ℕ-discrete i e)
-    }
+  pub columns-more : {k e v : ℕ} → e < count → k < 64 → v ≡ g e k → Columns g count k e l → Columns g count k (e + 1) (set l (e * 64 + k) v)
+  columns-more {k} {e} {v} he hk h c = record {
+    size = length-set l (e * 64 + k) v ∙ c .size;
+    passed = λ i j q r. getD-set-other l (e * 64 + k) (i * 64 + j) v 0 (λ x. omega arith) ∙ c .passed i j q r;
+    begun = λ i q. at-place i q (ℕ-discrete i e);
+  }
     where
-      at-place : (i : ℕ) → i < e + 1 → Dec (i ≡ e) → getD (set new (e * 64 + k) v) (i * 64 + k) 0 ≡ g i k
-      at-place i q (yes x) = subst (λ n. getD (set new (e * 64 + k) v) (n * 64 + k) 0 ≡ g n k) (sym x)
-          (getD-set-same new (e * 64 + k) v 0 (omega (arith, c .same-length)) ∙ h)
-      at-place i q (no x) = getD-set-other new (e * 64 + k) (i * 64 + k) v 0 (λ y. omega arith) ∙ c .begun i (omega arith)
+      at-place : (i : ℕ) → i < e + 1 → Dec (i ≡ e) → getD (set l (e * 64 + k) v) (i * 64 + k) 0 ≡ g i k
+      at-place i q (yes x) =
+          subst (λ n. getD (set l (e * 64 + k) v) (n * 64 + k) 0 ≡ g n k) (sym x) (getD-set-same l (e * 64 + k) v 0 (omega (arith, c .size)) ∙ h)
+      at-place i q (no x) = getD-set-other l (e * 64 + k) (i * 64 + k) v 0 (λ y. omega arith) ∙ c .begun i (omega arith)
 
   -- the next place
-  pub columns-next : {k e : ℕ} {new : List ℕ} → e ≡ count → Columns g count k e old new → Columns g count (k + 1) 0 old new
-  columns-next {k} {e} {new} x c = record {
-      same-length = c .same-length;
-      passed = λ i j q r. at-place i j q r (ℕ-discrete j k);
-      begun = λ i h. absurd (omega arith)
-    }
+  pub columns-next : {k e : ℕ} → e ≡ count → Columns g count k e l → Columns g count (k + 1) 0 l
+  columns-next {k} {e} x c = record { size = c .size; passed = λ i j q r. at-place i j q r (ℕ-discrete j k); begun = λ i h. absurd (omega arith) }
     where
-      at-place : (i j : ℕ) → i < count → j < k + 1 → Dec (j ≡ k) → getD new (i * 64 + j) 0 ≡ g i j
-      at-place i j q r (yes y) = subst (λ n. getD new (i * 64 + n) 0 ≡ g i n) (sym y) (c .begun i (omega arith))
+      at-place : (i j : ℕ) → i < count → j < k + 1 → Dec (j ≡ k) → getD l (i * 64 + j) 0 ≡ g i j
+      at-place i j q r (yes y) = subst (λ n. getD l (i * 64 + n) 0 ≡ g i n) (sym y) (c .begun i (omega arith))
       at-place i j q r (no y) = c .passed i j q (omega arith)
 
 -- all 64 places
-pub columns-all : (f : ℕ → List ℕ) (count k : ℕ) (old new : List ℕ) → k ≡ 64 → length old ≡ count * 64 → Columns (λ e j. getD (f e) j 0) count k 0 old new → new ≡ flat count f
+pub columns-all : (f : ℕ → List ℕ) (count k : ℕ) (l : List ℕ) → k ≡ 64 → Columns (λ e j. getD (f e) j 0) count k 0 l → l ≡ flat count f
 unfolding flat
-columns-all f count k old new x size c = is-tab (count * 64) (λ n. getD (f (n / 64)) (n % 64) 0) 0 new (c .same-length ∙ size) (λ n h.
+columns-all f count k l x c = is-tab (count * 64) (λ n. getD (f (n / 64)) (n % 64) 0) 0 l (c .size) (λ n h.
     let e : n / 64 * 64 + n % 64 ≡ n = omega arith in
-    ap (λ m. getD new m 0) (sym e) ∙ c .passed (n / 64) (n % 64) (omega arith) (omega arith))
+    ap (λ m. getD l m 0) (sym e) ∙ c .passed (n / 64) (n % 64) (omega arith) (omega arith))
 
 -- what `combined` gives is place k of four elements times four
 module _ (v m : List ℕ) (e row step k at : ℕ) (cv : Coefficients 256 v) (hk : k < 64) (ha : at ≡ e * row * 64 + k) where

@@ -344,7 +344,14 @@ fn combined(words: Words, matrix: &[u64], at: usize, step: usize) -> u64
 
 // A vector of four ring elements times a matrix: element e of out is the sum over q of vector element q times matrix element
 // e·row + q·step. Each coefficient of the vector becomes a field element once, for all of out.
-fn vector_times(vector: &[u64], matrix: &[u64], out: &mut [u64], count: usize, row: usize, step: usize)
+fn vector_times(
+    vector: &[u64],
+    matrix: &[u64],
+    out: &mut [u64],
+    count: usize,
+    row: usize,
+    step: usize,
+)
     requires { ⌜ Coefficients 256 (now vector) × (length (now out) ≡ count * 64) ⌝ }
     requires { ⌜ (count * row + 3 * step + 1) * 64 ≤ length (now matrix) + row * 64 ⌝ }
     ensures { λ r. ⌜ now (out .exit) ≡ flat count (λ e. dot 4 (cell (now (vector .entry))) (λ q. cell (now (matrix .entry)) (e * row + q * step))) ⌝ }
@@ -360,4 +367,28 @@ fn vector_times(vector: &[u64], matrix: &[u64], out: &mut [u64], count: usize, r
             out[e * 64 + k] = combined(words, matrix, e * row * 64 + k, step * 64);
         }
     }
+}
+
+// The matrix products that keys and packets take, of transformed elements: 4 by 4 times 4 by 1,
+pub fn matrix_times_column(lhs: &[u64], rhs: &[u64], out: &mut [u64])
+    requires { ⌜ Coefficients 1024 (now lhs) × Coefficients 256 (now rhs) × (length (now out) ≡ 256) ⌝ }
+    ensures { λ r. ⌜ now (out .exit) ≡ matrix 4 4 1 (now (lhs .entry)) (now (rhs .entry)) ⌝ }
+{
+    vector_times(rhs, lhs, out, 4, 4, 1);
+}
+
+// 1 by 4 times 4 by 4,
+pub fn row_times_matrix(lhs: &[u64], rhs: &[u64], out: &mut [u64])
+    requires { ⌜ Coefficients 256 (now lhs) × Coefficients 1024 (now rhs) × (length (now out) ≡ 256) ⌝ }
+    ensures { λ r. ⌜ now (out .exit) ≡ matrix 1 4 4 (now (lhs .entry)) (now (rhs .entry)) ⌝ }
+{
+    vector_times(lhs, rhs, out, 4, 1, 4);
+}
+
+// and 1 by 4 times 4 by 1.
+pub fn row_times_column(lhs: &[u64], rhs: &[u64], out: &mut [u64])
+    requires { ⌜ Coefficients 256 (now lhs) × Coefficients 256 (now rhs) × (length (now out) ≡ 64) ⌝ }
+    ensures { λ r. ⌜ now (out .exit) ≡ matrix 1 4 1 (now (lhs .entry)) (now (rhs .entry)) ⌝ }
+{
+    vector_times(lhs, rhs, out, 1, 1, 1);
 }
