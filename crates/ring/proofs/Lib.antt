@@ -7,3 +7,8 @@ pub mod Remainders
 pub mod Polynomials
 pub mod Cells
 pub mod Matrices
+pub mod Blocks
+pub mod Forward
+pub mod Tables
+pub mod Backward
+pub mod Columns

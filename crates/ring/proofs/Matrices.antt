@@ -3,7 +3,7 @@
 use mathlib.Core.Path.{_≡_, refl, sym, _∙_, ap}
 use mathlib.Core.List.{List}
 use Prim.Native.Nat.{ℕ, _+_, _*_, _/_, _%_, _<_}
-use native.Mathlib.Nat.{mod-lt, div-lt-iff-lt-mul, mul-le-mul-right}
+use native.Mathlib.Nat.{mod-lt, mod-eq-of-lt, div-eq-of-lt, div-lt-iff-lt-mul, mul-le-mul-right, mul-comm, mul-one}
 use mathlib.Core.Logic.{⊎-elim}
 use native.Mathlib.Omega.{arith}
 use lib.Arith.{digits-div, digits-mod}
@@ -19,7 +19,7 @@ use Rattle.laws.proofs.Convolution.{assoc-form, noise}
 use Rattle.field.specs.Field.{P, Coefficients}
 use Rattle.ring.specs.Transform.{transform, untransform}
 use Rattle.ring.specs.Elements.{plus, minus, product}
-use Rattle.ring.specs.Matrices.{cell, dot, ring-dot, matrix}
+use Rattle.ring.specs.Matrices.{cell, flat, dot, ring-dot, matrix}
 use Rattle.ring.proofs.Residue.{F, co, co-tab, p-pos, same, remainders}
 use Rattle.ring.proofs.Roots.{W}
 use Rattle.ring.proofs.Transforms.{transform-canonical, transform-value, untransform-transform}
@@ -98,6 +98,33 @@ pub matrix-single : (n : ℕ) (u v : List ℕ) → matrix 1 n 1 u v ≡ dot n (c
 matrix-single n u v =
     sym (cell-whole (matrix 1 n 1 u v) (matrix-canonical 1 n 1 u v .size)) ∙ matrix-row n 1 u v 0 (lit< tt)
     ∙ dot-ext n _ _ _ _ (λ q m. refl) (λ q m. let o : q * 1 + 0 ≡ q = omega arith in ap (cell v) o)
+
+-- the same shapes as sums over the vector's elements, which stand first; matrix elements are taken `n` or 1 apart from sum to sum
+pub dot-comm : (n : ℕ) (u v : ℕ → List ℕ) → dot n u v ≡ dot n v u
+unfolding dot
+dot-comm n u v = tab-ext 64 _ _ (λ k h. ap (λ w. w % P) (total-ext n _ _ (λ i l. mul-comm (getD (u i) k 0) (getD (v i) k 0))))
+
+pub matrix-column-flat : (h n : ℕ) (g v : List ℕ) → matrix h n 1 g v ≡ flat h (λ e. dot n (cell v) (λ q. cell g (e * n + q * 1)))
+unfolding matrix
+matrix-column-flat h n g v =
+    ap (λ c. flat c (λ e. dot n (λ q. cell g (e / 1 * n + q)) (λ q. cell v (q * 1 + e % 1)))) (mul-one h)
+    ∙ flat-ext h _ _ (λ e l.
+    dot-ext n _ _ (λ q. cell g (e * n + q * 1)) (cell v)
+    (λ q m. let o : q ≡ q * 1 = omega arith in let d : e / 1 ≡ e = omega arith in (λ i. cell g (d i * n + o i)))
+    (λ q m. let o : q * 1 + e % 1 ≡ q = omega arith in ap (cell v) o)
+    ∙ dot-comm n (λ q. cell g (e * n + q * 1)) (cell v))
+
+pub matrix-row-flat : (n w : ℕ) (v g : List ℕ) → matrix 1 n w v g ≡ flat w (λ e. dot n (cell v) (λ q. cell g (e * 1 + q * w)))
+unfolding matrix
+matrix-row-flat n w v g =
+    ap (λ c. flat c (λ e. dot n (λ q. cell v (e / w * n + q)) (λ q. cell g (q * w + e % w)))) (one-mul-nat w)
+    ∙ flat-ext w _ _ (λ e l.
+    dot-ext n _ _ (cell v) (λ q. cell g (e * 1 + q * w))
+    (λ q m. let d : e / w ≡ 0 = div-eq-of-lt l in let o : 0 * n + q ≡ q = omega arith in ap (λ x. cell v (x * n + q)) d ∙ ap (cell v) o)
+    (λ q m. let o : q * w + e ≡ e * 1 + q * w = omega arith in ap (λ x. cell g (q * w + x)) (mod-eq-of-lt l) ∙ ap (cell g) o))
+  where
+    one-mul-nat : (k : ℕ) → 1 * k ≡ k
+    one-mul-nat k = omega arith
 
 -- u·(B·v) = (u·B)·v, of a row u, a matrix B and a column v
 pub dot-assoc : (n m : ℕ) (u : ℕ → List ℕ) (B : ℕ → ℕ → List ℕ) (v : ℕ → List ℕ)

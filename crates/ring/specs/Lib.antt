@@ -3,3 +3,4 @@ pub mod Transform
 pub mod Elements
 pub mod Matrices
 pub mod Points
+pub mod Stages

@@ -1,4 +1,394 @@
-// The ring of lattice.rs: polynomials modulo X^64 + 1 and p.
-pub fn nothing() -> u64 {
-    0
+// The ring of lattice.rs, polynomials modulo X^64 + 1 and p: both transforms, sums, differences and products of ring elements, and the
+// product of matrices of them. A ring element is 64 canonical numbers, a matrix one flat slice of ring elements, row by row.
+use field::BFieldElement;
+ghost use mathlib.Core.Path.{_≡_};
+ghost use Prim.Native.Nat.{ℕ, _+_, _*_, _%_, _<_, _≤_};
+ghost use lib.ListN.{length, getD};
+ghost use Rattle.laws.specs.Lists.{tab};
+ghost use Rattle.field.specs.Field.{P, Coefficients};
+ghost use Rattle.field.specs.Element.{Good, num};
+ghost use Rattle.ring.specs.Transform.{transform, untransform, zeta, zeta-inv};
+ghost use Rattle.ring.specs.Elements.{plus, minus, hadamard, product};
+ghost use Rattle.ring.specs.Matrices.{cell, flat, dot, matrix};
+ghost use Rattle.ring.specs.Stages.{sum-of, difference-of, sum-back, difference-back, Butterflied, forward, backward, unscaled, scaled};
+
+// psi to the power brv(k), k from 0 to 63, and the inverses. Entry 0 is never read.
+const POWERS_OF_PSI_BITREVERSED: [u64; 64] = [
+    1,
+    281474976710656,
+    16777216,
+    1099511627520,
+    4096,
+    1152921504606846976,
+    68719476736,
+    4503599626321920,
+    64,
+    18014398509481984,
+    1073741824,
+    70368744161280,
+    262144,
+    17179869180,
+    4398046511104,
+    288230376084602880,
+    8,
+    2251799813685248,
+    134217728,
+    8796093020160,
+    32768,
+    9223372036854775808,
+    549755813888,
+    36028797010575360,
+    512,
+    144115188075855872,
+    8589934592,
+    562949953290240,
+    2097152,
+    137438953440,
+    35184372088832,
+    2305843008676823040,
+    2198989700608,
+    18446741870357774849,
+    18446181119461163007,
+    18446181119461163011,
+    9007061813690368,
+    18437736732722987009,
+    16140901060200882177,
+    16140901060200898561,
+    140735340838912,
+    18446603329778778113,
+    18410715272395620225,
+    18410715272395620481,
+    576451956076183552,
+    17870274521152356353,
+    18446744035054321673,
+    18446744035055370249,
+    17591917604864,
+    18446726476960108545,
+    18442240469787213809,
+    18442240469787213841,
+    72056494509522944,
+    18374685375881805825,
+    18446744065119551490,
+    18446744065119682562,
+    1125882726711296,
+    18445618152328134657,
+    18158513693262871553,
+    18158513693262873601,
+    4611615648609468416,
+    13834987683316760577,
+    18446743794532483137,
+    18446743794540871745,
+];
+
+const POWERS_OF_PSI_INV_BITREVERSED: [u64; 64] = [
+    1,
+    18446462594437873665,
+    18446742969902956801,
+    18446744069397807105,
+    18442240469788262401,
+    18446744000695107585,
+    17293822564807737345,
+    18446744069414580225,
+    18158513693329981441,
+    18446739671368073217,
+    18446744052234715141,
+    18446744069414322177,
+    18446673700670423041,
+    18446744068340842497,
+    18428729670905102337,
+    18446744069414584257,
+    16140901060737761281,
+    18446708885042495489,
+    18446743931975630881,
+    18446744069412487169,
+    18446181119461294081,
+    18446744060824649729,
+    18302628881338728449,
+    18446744069414583809,
+    18410715272404008961,
+    18446743519658770433,
+    9223372032559808513,
+    18446744069414551553,
+    18446735273321564161,
+    18446744069280366593,
+    18444492269600899073,
+    18446744069414584313,
+    274873712576,
+    274882101184,
+    4611756386097823744,
+    13835128420805115905,
+    288230376151710720,
+    288230376151712768,
+    1125917086449664,
+    18445618186687873025,
+    4294901759,
+    4295032831,
+    72058693532778496,
+    18374687574905061377,
+    4503599627370480,
+    4503599627370512,
+    17592454475776,
+    18446726477496979457,
+    34359214072,
+    34360262648,
+    576469548262227968,
+    17870292113338400769,
+    36028797018963840,
+    36028797018964096,
+    140739635806208,
+    18446603334073745409,
+    2305843009213685760,
+    2305843009213702144,
+    9007336691597312,
+    18437737007600893953,
+    562949953421310,
+    562949953421314,
+    2199056809472,
+    18446741870424883713,
+];
+
+// 1/64
+const N_INV: u64 = 18158513693329981441;
+
+// One block of the forward transform.
+fn butterflies(array: &mut [u64], s: usize, t: usize, zeta: BFieldElement)
+    requires { ⌜ Coefficients 64 (now array) ⌝ }
+    requires { ⌜ (s + t + t ≤ 64) × Good zeta ⌝ }
+    ensures { λ r. ⌜ Butterflied (sum-of (num zeta)) (difference-of (num zeta)) s t (s + t) (now (array .entry)) (now (array .exit)) ⌝ }
+{
+    for j in s..s + t {
+        let u = array[j];
+        let v = zeta.scaled(array[j + t]);
+        array[j] = field::add_mod_p(u, v);
+        array[j + t] = field::sub_mod_p(u, v);
+    }
+}
+
+// One stage: m blocks of t + t numbers. The zetas are plain numbers, so that each block makes its element.
+fn stage(array: &mut [u64], zetas: &[u64; 64], m: usize, t: usize)
+    requires { ⌜ Coefficients 64 (now array) ⌝ }
+    requires { ⌜ (now zetas ≡ tab 64 zeta) × (m * (t + t) ≡ 64) ⌝ }
+    ensures { λ r. ⌜ (now (array .exit) ≡ forward m t (now (array .entry))) × Coefficients 64 (now (array .exit)) ⌝ }
+{
+    for i in 0..m {
+        let zeta = BFieldElement::new(zetas[m + i]);
+        butterflies(array, i * (t + t), t, zeta);
+    }
+}
+
+// The stages are calls with constant sizes, which LLVM unrolls: a tenth less time than one loop over them takes.
+pub fn coset_ntt_noswap_64(array: &mut [u64])
+    requires { ⌜ Coefficients 64 (now array) ⌝ }
+    ensures { λ r. ⌜ now (array .exit) ≡ transform (now (array .entry)) ⌝ }
+{
+    let zetas = POWERS_OF_PSI_BITREVERSED;
+    stage(array, &zetas, 1, 32);
+    stage(array, &zetas, 2, 16);
+    stage(array, &zetas, 4, 8);
+    stage(array, &zetas, 8, 4);
+    stage(array, &zetas, 16, 2);
+    stage(array, &zetas, 32, 1);
+}
+
+// One block of the inverse transform.
+fn unbutterflies(array: &mut [u64], k: usize, t: usize, zeta: BFieldElement)
+    requires { ⌜ Coefficients 64 (now array) ⌝ }
+    requires { ⌜ (k + t + t ≤ 64) × Good zeta ⌝ }
+    ensures { λ r. ⌜ Butterflied (sum-back (num zeta)) (difference-back (num zeta)) k t (k + t) (now (array .entry)) (now (array .exit)) ⌝ }
+{
+    for j in k..k + t {
+        let u = array[j];
+        let v = array[j + t];
+        array[j] = field::add_mod_p(u, v);
+        array[j + t] = zeta.scaled(field::sub_mod_p(u, v));
+    }
+}
+
+// One stage of the inverse: h blocks of t + t numbers.
+fn unstage(array: &mut [u64], zetas: &[u64; 64], h: usize, t: usize)
+    requires { ⌜ Coefficients 64 (now array) ⌝ }
+    requires { ⌜ (now zetas ≡ tab 64 zeta-inv) × (h * (t + t) ≡ 64) ⌝ }
+    ensures { λ r. ⌜ (now (array .exit) ≡ backward h t (now (array .entry))) × Coefficients 64 (now (array .exit)) ⌝ }
+{
+    for i in 0..h {
+        let zeta = BFieldElement::new(zetas[h + i]);
+        unbutterflies(array, i * (t + t), t, zeta);
+    }
+}
+
+fn unstages(array: &mut [u64])
+    requires { ⌜ Coefficients 64 (now array) ⌝ }
+    ensures { λ r. ⌜ (now (array .exit) ≡ unscaled (now (array .entry))) × Coefficients 64 (now (array .exit)) ⌝ }
+{
+    let zetas = POWERS_OF_PSI_INV_BITREVERSED;
+    unstage(array, &zetas, 32, 1);
+    unstage(array, &zetas, 16, 2);
+    unstage(array, &zetas, 8, 4);
+    unstage(array, &zetas, 4, 8);
+    unstage(array, &zetas, 2, 16);
+    unstage(array, &zetas, 1, 32);
+}
+
+fn scale(array: &mut [u64], factor: BFieldElement)
+    requires { ⌜ (length (now array) ≡ 64) × Good factor ⌝ }
+    ensures { λ r. ⌜ now (array .exit) ≡ scaled (num factor) (now (array .entry)) ⌝ }
+{
+    for i in 0..64 {
+        array[i] = factor.scaled(array[i]);
+    }
+}
+
+pub fn coset_intt_noswap_64(array: &mut [u64])
+    requires { ⌜ Coefficients 64 (now array) ⌝ }
+    ensures { λ r. ⌜ now (array .exit) ≡ untransform (now (array .entry)) ⌝ }
+{
+    unstages(array);
+    scale(array, BFieldElement::new(N_INV));
+}
+
+pub fn copy(from: &[u64], to: &mut [u64])
+    requires { ⌜ length (now from) ≡ length (now to) ⌝ }
+    ensures { λ r. ⌜ now (to .exit) ≡ now (from .entry) ⌝ }
+{
+    for i in 0..to.len() {
+        to[i] = from[i];
+    }
+}
+
+// Of any number of coefficients: 64 for a ring element, 256 for a vector of four.
+pub fn add_assign(lhs: &mut [u64], rhs: &[u64])
+    requires { ⌜ Coefficients (length (now lhs)) (now lhs) × Coefficients (length (now lhs)) (now rhs) ⌝ }
+    ensures { λ r. ⌜ now (lhs .exit) ≡ plus (length (now (lhs .entry))) (now (lhs .entry)) (now (rhs .entry)) ⌝ }
+{
+    for i in 0..lhs.len() {
+        lhs[i] = field::add_mod_p(lhs[i], rhs[i]);
+    }
+}
+
+pub fn sub_assign(lhs: &mut [u64], rhs: &[u64])
+    requires { ⌜ Coefficients (length (now lhs)) (now lhs) × Coefficients (length (now lhs)) (now rhs) ⌝ }
+    ensures { λ r. ⌜ now (lhs .exit) ≡ minus (length (now (lhs .entry))) (now (lhs .entry)) (now (rhs .entry)) ⌝ }
+{
+    for i in 0..lhs.len() {
+        lhs[i] = field::sub_mod_p(lhs[i], rhs[i]);
+    }
+}
+
+pub fn hadamard_assign(lhs: &mut [u64], rhs: &[u64])
+    requires { ⌜ Coefficients 64 (now lhs) × Coefficients 64 (now rhs) ⌝ }
+    ensures { λ r. ⌜ now (lhs .exit) ≡ hadamard (now (lhs .entry)) (now (rhs .entry)) ⌝ }
+{
+    for i in 0..64 {
+        lhs[i] = BFieldElement::new(lhs[i]).scaled(rhs[i]);
+    }
+}
+
+// The product in the ring, through the transforms.
+pub fn multiply(lhs: &[u64], rhs: &[u64], out: &mut [u64])
+    requires { ⌜ Coefficients 64 (now lhs) × Coefficients 64 (now rhs) × (length (now out) ≡ 64) ⌝ }
+    ensures { λ r. ⌜ now (out .exit) ≡ product (now (lhs .entry)) (now (rhs .entry)) ⌝ }
+{
+    let mut other = [0u64; 64];
+    copy(lhs, out);
+    copy(rhs, &mut other);
+    coset_ntt_noswap_64(out);
+    coset_ntt_noswap_64(&mut other);
+    hadamard_assign(out, &other);
+    coset_intt_noswap_64(out);
+}
+
+pub fn add(lhs: &[u64], rhs: &[u64], out: &mut [u64])
+    requires { ⌜ Coefficients 64 (now lhs) × Coefficients 64 (now rhs) × (length (now out) ≡ 64) ⌝ }
+    ensures { λ r. ⌜ now (out .exit) ≡ plus 64 (now (lhs .entry)) (now (rhs .entry)) ⌝ }
+{
+    copy(lhs, out);
+    add_assign(out, rhs);
+}
+
+pub fn sub(lhs: &[u64], rhs: &[u64], out: &mut [u64])
+    requires { ⌜ Coefficients 64 (now lhs) × Coefficients 64 (now rhs) × (length (now out) ≡ 64) ⌝ }
+    ensures { λ r. ⌜ now (out .exit) ≡ minus 64 (now (lhs .entry)) (now (rhs .entry)) ⌝ }
+{
+    copy(lhs, out);
+    sub_assign(out, rhs);
+}
+
+pub fn hadamard(lhs: &[u64], rhs: &[u64], out: &mut [u64])
+    requires { ⌜ Coefficients 64 (now lhs) × Coefficients 64 (now rhs) × (length (now out) ≡ 64) ⌝ }
+    ensures { λ r. ⌜ now (out .exit) ≡ hadamard (now (lhs .entry)) (now (rhs .entry)) ⌝ }
+{
+    copy(lhs, out);
+    hadamard_assign(out, rhs);
+}
+
+// Four coefficients of a vector as field elements, to be multiplied by several plain numbers each.
+struct Words {
+    w0: BFieldElement,
+    w1: BFieldElement,
+    w2: BFieldElement,
+    w3: BFieldElement,
+}
+
+// Their products with the coefficients of a matrix that stand at at, at + step, at + 2 step and at + 3 step, added up.
+fn combined(words: Words, matrix: &[u64], at: usize, step: usize) -> u64
+    requires { ⌜ Good (words .w0) × Good (words .w1) × Good (words .w2) × Good (words .w3) × (at + 3 * step < length (now matrix)) ⌝ }
+    ensures { λ r. ⌜ r ≡ (num (words .w0) * getD (now (matrix .entry)) at 0 + num (words .w1) * getD (now (matrix .entry)) (at + step) 0
+        + num (words .w2) * getD (now (matrix .entry)) (at + 2 * step) 0 + num (words .w3) * getD (now (matrix .entry)) (at + 3 * step) 0) % P ⌝ }
+{
+    let a = words.w0.scaled(matrix[at]);
+    let b = words.w1.scaled(matrix[at + step]);
+    let c = words.w2.scaled(matrix[at + 2 * step]);
+    let d = words.w3.scaled(matrix[at + 3 * step]);
+    field::add_mod_p(field::add_mod_p(a, b), field::add_mod_p(c, d))
+}
+
+// A vector of four ring elements times a matrix: element e of out is the sum over q of vector element q times matrix element
+// e·row + q·step. Each coefficient of the vector becomes a field element once, for all of out.
+fn vector_times(
+    vector: &[u64],
+    matrix: &[u64],
+    out: &mut [u64],
+    count: usize,
+    row: usize,
+    step: usize,
+)
+    requires { ⌜ Coefficients 256 (now vector) × (length (now out) ≡ count * 64) ⌝ }
+    requires { ⌜ (count * row + 3 * step + 1) * 64 ≤ length (now matrix) + row * 64 ⌝ }
+    ensures { λ r. ⌜ now (out .exit) ≡ flat count (λ e. dot 4 (cell (now (vector .entry))) (λ q. cell (now (matrix .entry)) (e * row + q * step))) ⌝ }
+{
+    'places: for k in 0..64 {
+        let words = Words {
+            w0: BFieldElement::new(vector[k]),
+            w1: BFieldElement::new(vector[64 + k]),
+            w2: BFieldElement::new(vector[128 + k]),
+            w3: BFieldElement::new(vector[192 + k]),
+        };
+        'elements: for e in 0..count {
+            out[e * 64 + k] = combined(words, matrix, e * row * 64 + k, step * 64);
+        }
+    }
+}
+
+// The matrix products that keys and packets take, of transformed elements: 4 by 4 times 4 by 1,
+pub fn matrix_times_column(lhs: &[u64], rhs: &[u64], out: &mut [u64])
+    requires { ⌜ Coefficients 1024 (now lhs) × Coefficients 256 (now rhs) × (length (now out) ≡ 256) ⌝ }
+    ensures { λ r. ⌜ now (out .exit) ≡ matrix 4 4 1 (now (lhs .entry)) (now (rhs .entry)) ⌝ }
+{
+    vector_times(rhs, lhs, out, 4, 4, 1);
+}
+
+// 1 by 4 times 4 by 4,
+pub fn row_times_matrix(lhs: &[u64], rhs: &[u64], out: &mut [u64])
+    requires { ⌜ Coefficients 256 (now lhs) × Coefficients 1024 (now rhs) × (length (now out) ≡ 256) ⌝ }
+    ensures { λ r. ⌜ now (out .exit) ≡ matrix 1 4 4 (now (lhs .entry)) (now (rhs .entry)) ⌝ }
+{
+    vector_times(lhs, rhs, out, 4, 1, 4);
+}
+
+// and 1 by 4 times 4 by 1.
+pub fn row_times_column(lhs: &[u64], rhs: &[u64], out: &mut [u64])
+    requires { ⌜ Coefficients 256 (now lhs) × Coefficients 256 (now rhs) × (length (now out) ≡ 64) ⌝ }
+    ensures { λ r. ⌜ now (out .exit) ≡ matrix 1 4 1 (now (lhs .entry)) (now (rhs .entry)) ⌝ }
+{
+    vector_times(lhs, rhs, out, 1, 1, 1);
 }

@@ -1,0 +1,25 @@
+-- `add` is `add_assign` on a copy. Assumes nothing.
+use Prim.Native.Nat.{_-_}
+use mathlib.Core.Path.{refl, sym, _∙_}
+use borrow.Author.Needs.{needs}
+use Rattle.laws.proofs.Bounds.{below-as}
+use Rattle.ring.specs.Elements.{plus}
+use Rattle.ring.proofs.add.Statement.{statement}
+use Rattle.ring.proofs.add.Tie as tie
+
+add-assign-requires : tie.Need-add-assign-requires
+add-assign-requires c κs =
+    let k = c .before .before .before in
+    let start = k .before .before .before .before .before in
+    let l = below-as (k .copy .ensures) (start .pre .0) in
+    (record { size = refl; each = l .each }, record { size = start .pre .1 .size ∙ sym (l .size); each = start .pre .1 .each })
+
+returns : tie.Need-returns
+returns c =
+    let d = c .before .before in
+    let k = d .before .before .before .before in
+    let start = k .before .before .before .before .before in
+    d .add-assign .ensures ∙ (λ i. plus (below-as (k .copy .ensures) (start .pre .0) .size i) (k .copy .ensures i) (start .args .rhs .now))
+
+pub add-spec : {M : Type 1} → statement M
+add-spec = tie.close (tie.spec (λ c κs. search needs) add-assign-requires (λ c. search needs) returns)

@@ -1,0 +1,25 @@
+-- `sub` is `sub_assign` on a copy. Assumes nothing.
+use Prim.Native.Nat.{_-_}
+use mathlib.Core.Path.{refl, sym, _∙_}
+use borrow.Author.Needs.{needs}
+use Rattle.laws.proofs.Bounds.{below-as}
+use Rattle.ring.specs.Elements.{minus}
+use Rattle.ring.proofs.sub.Statement.{statement}
+use Rattle.ring.proofs.sub.Tie as tie
+
+sub-assign-requires : tie.Need-sub-assign-requires
+sub-assign-requires c κs =
+    let k = c .before .before .before in
+    let start = k .before .before .before .before .before in
+    let l = below-as (k .copy .ensures) (start .pre .0) in
+    (record { size = refl; each = l .each }, record { size = start .pre .1 .size ∙ sym (l .size); each = start .pre .1 .each })
+
+returns : tie.Need-returns
+returns c =
+    let d = c .before .before in
+    let k = d .before .before .before .before in
+    let start = k .before .before .before .before .before in
+    d .sub-assign .ensures ∙ (λ i. minus (below-as (k .copy .ensures) (start .pre .0) .size i) (k .copy .ensures i) (start .args .rhs .now))
+
+pub sub-spec : {M : Type 1} → statement M
+sub-spec = tie.close (tie.spec (λ c κs. search needs) sub-assign-requires (λ c. search needs) returns)
