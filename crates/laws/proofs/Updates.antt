@@ -38,3 +38,7 @@ mapped-more g i v old new h e m = record {
 -- the loop's end
 pub mapped-all : (g : ℕ → ℕ → ℕ) (n : ℕ) (old new : List ℕ) → length old ≡ n → Mapped g n old new → new ≡ tab n (λ j. g j (getD old j 0))
 mapped-all g n old new e m = is-tab n (λ j. g j (getD old j 0)) 0 new (m .same-length ∙ e) (m .passed)
+
+-- the same at an equal place
+pub mapped-at : {g : ℕ → ℕ → ℕ} {i j : ℕ} {old new : List ℕ} → i ≡ j → Mapped g i old new → Mapped g j old new
+mapped-at {g} {old = old} {new = new} e m = subst (λ (k : ℕ). Mapped g k old new) e m
