@@ -314,6 +314,13 @@ pub fn sample_uniform(randomness: &[u8], out: &mut [u64])
     sample_uniforms(randomness, out);
 }
 
+// The table's rule, said once. Each mention of the table copies it, so that callers take it once and lend it.
+fn num_set_bits_table() -> [u8; 256]
+    ensures { λ r. ⌜ r ≡ tab 256 ones ⌝ }
+{
+    NUM_SET_BITS
+}
+
 fn set_bits(table: &[u8; 256], b: u8) -> u64
     requires { ⌜ now table ≡ tab 256 ones ⌝ }
     ensures { λ r. ⌜ (r ≡ ones b) × (r ≤ 8) ⌝ }
@@ -344,17 +351,16 @@ pub fn sample_short_bfield_element(randomness: &[u8]) -> u64
     requires { ⌜ length (now randomness) ≡ 8 ⌝ }
     ensures { λ r. ⌜ r ≡ short ones (now (randomness .entry)) 0 ⌝ }
 {
-    let table = NUM_SET_BITS;
+    let table = num_set_bits_table();
     short_at(&table, randomness, 0)
 }
 
-// As many short coefficients as `out` holds: a ring element, or a vector of them. The table is copied once and lent: each mention of it would
-// copy it anew.
+// As many short coefficients as `out` holds: a ring element, or a vector of them.
 pub fn sample_shorts(randomness: &[u8], out: &mut [u64])
     requires { ⌜ length (now randomness) ≡ 8 * length (now out) ⌝ }
     ensures { λ r. ⌜ now (out .exit) ≡ shorts ones (length (now (out .entry))) (now (randomness .entry)) ⌝ }
 {
-    let table = NUM_SET_BITS;
+    let table = num_set_bits_table();
     for k in 0..out.len() {
         out[k] = short_at(&table, randomness, 8 * k);
     }

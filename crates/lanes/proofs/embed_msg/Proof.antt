@@ -1,3 +1,4 @@
+-- `embed_msg` fills the embedding. The loop's invariant: the first 2 i coefficients are those of the payload's bytes. Assumes nothing.
 use borrow.Author.Needs.{needs}
 use native.Mathlib.Omega.{arith}
 use Prim.Native.Nat.{ℕ, _+_, _*_, _-_, _≤_, _/_}

@@ -1,3 +1,4 @@
+-- `extract_msg` fills the payload. The loop's invariant: the first i bytes are read. Assumes nothing.
 use borrow.Author.Needs.{needs}
 use native.Mathlib.Omega.{arith}
 use Prim.Native.Nat.{_+_, _*_, _-_, _≤_}

@@ -1,3 +1,4 @@
+-- `four_bytes` reads four bytes, the first one the highest. Assumes nothing.
 use native.Mathlib.Omega.{arith}
 use Prim.Native.Nat.{ℕ, _-_}
 use mathlib.Core.Path.{ap}

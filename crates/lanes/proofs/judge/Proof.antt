@@ -1,3 +1,4 @@
+-- `judge` is the rule of the two thresholds. Assumes nothing.
 use native.Mathlib.Omega.{arith}
 use Prim.Native.Nat.{_-_}
 use mathlib.Core.Path.{sym}

@@ -1,3 +1,4 @@
+-- `lift` puts four bits at the top of their lanes. Assumes nothing.
 use native.Mathlib.Omega.{arith}
 use Prim.Native.Nat.{_-_}
 use borrow.Author.Needs.{needs}

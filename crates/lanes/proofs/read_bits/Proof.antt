@@ -1,3 +1,4 @@
+-- `read_bits` judges the four chunks of a coefficient. Assumes nothing.
 use native.Mathlib.Omega.{arith}
 use Prim.Native.Nat.{ℕ, _+_, _*_, _-_, _%_, _^_}
 use mathlib.Core.Path.{sym, _∙_, ap}

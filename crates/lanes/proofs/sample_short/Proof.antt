@@ -1,3 +1,4 @@
+-- `sample_short` draws 64 short coefficients. Assumes nothing.
 use Prim.Native.Nat.{ℕ, _-_}
 use mathlib.Core.Path.{_∙_, ap}
 use borrow.Author.Needs.{needs}

@@ -1,3 +1,4 @@
+-- `sample_uniform` draws 64 uniform coefficients. Assumes nothing.
 use Prim.Native.Nat.{ℕ, _-_}
 use mathlib.Core.Path.{_∙_, ap}
 use borrow.Author.Needs.{needs}

@@ -1,3 +1,4 @@
+-- `set_bits` looks the count up. Assumes nothing.
 use Prim.Native.Nat.{ℕ, _-_, _≤_}
 use mathlib.Core.Path.{sym, _∙_, ap, subst}
 use lib.ListN.{getD}
