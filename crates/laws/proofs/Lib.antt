@@ -17,3 +17,4 @@ pub mod Halving
 pub mod Interpolation
 pub mod Convolution
 pub mod Bounds
+pub mod Integers

@@ -4,3 +4,4 @@ pub mod Congruence
 pub mod Rings
 pub mod Sums
 pub mod Points
+pub mod Integers
