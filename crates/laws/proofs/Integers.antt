@@ -3,7 +3,7 @@
 use mathlib.Core.Path.{_≡_, refl, sym, ap, _∙_, subst}
 use mathlib.Core.Logic.{⊎-elim}
 use Prim.Native.Nat.{ℕ, zero, suc, _+_, _*_, _-_, _%_, _≤_, _<_}
-use native.Mathlib.Nat.{mul-le-mul, add-zero, zero-add, le-trans}
+use native.Mathlib.Nat.{mul-le-mul, add-zero, zero-add, le-trans, mod-lt}
 use native.Mathlib.Omega.{arith}
 use lib.IntN.{ℤ, pos, negsuc, subℕ, _+ℤ_, _*ℤ_, negℤ, natAbs}
 use borrow.Author.Tests.{lt-ltb, le-ltb}
@@ -151,3 +151,8 @@ module _ {m : ℕ} (positive : 0 < m) where
     where
       gather : (a b u v w : ℕ) → a * b + w + ((a + u) * v + u * (b + v)) ≡ w + ((a + u) * (b + v) + u * v)
       gather a b u v w = omega arith
+
+  pub residue-below : (z : ℤ) → residue m z < m
+  unfolding residue
+  residue-below (pos n) = mod-lt n positive
+  residue-below (negsuc n) = mod-lt (m - suc n % m) positive
