@@ -18,3 +18,4 @@ pub mod Halving
 pub mod Interpolation
 pub mod Convolution
 pub mod Bounds
+pub mod Integers

@@ -39,6 +39,10 @@ mapped-more g i v old new h e m = record {
 pub mapped-all : (g : ℕ → ℕ → ℕ) (n : ℕ) (old new : List ℕ) → length old ≡ n → Mapped g n old new → new ≡ tab n (λ j. g j (getD old j 0))
 mapped-all g n old new e m = is-tab n (λ j. g j (getD old j 0)) 0 new (m .same-length ∙ e) (m .passed)
 
--- the same, where the loop's counter has come to n
+-- the same at an equal place
+pub mapped-at : {g : ℕ → ℕ → ℕ} {i j : ℕ} {old new : List ℕ} → i ≡ j → Mapped g i old new → Mapped g j old new
+mapped-at {g} {old = old} {new = new} e m = subst (λ (k : ℕ). Mapped g k old new) e m
+
+-- the loop's end, where its counter has come to n
 pub mapped-end : (g : ℕ → ℕ → ℕ) (n i : ℕ) (old new : List ℕ) → i ≡ n → length old ≡ n → Mapped g i old new → new ≡ tab n (λ j. g j (getD old j 0))
-mapped-end g n i old new e h m = mapped-all g n old new h (subst (λ (k : ℕ). Mapped g k old new) e m)
+mapped-end g n i old new e h m = mapped-all g n old new h (mapped-at e m)

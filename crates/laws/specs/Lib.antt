@@ -5,3 +5,4 @@ pub mod Rings
 pub mod Sums
 pub mod Digits
 pub mod Points
+pub mod Integers

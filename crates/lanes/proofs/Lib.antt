@@ -1,0 +1,3 @@
+-- Laws of the samplers and of message lanes.
+pub mod Samplers
+pub mod Messages

@@ -1,0 +1,23 @@
+-- `four_bytes` reads four bytes, the first one the highest. Assumes nothing.
+use native.Mathlib.Omega.{arith}
+use Prim.Native.Nat.{ℕ, _-_}
+use mathlib.Core.Path.{ap}
+use lib.ListN.{getD}
+use borrow.Author.Needs.{needs}
+use Rattle.lanes.specs.Samplers.{big-endian}
+use native.Mathlib.Nat.{add-zero}
+use Rattle.lanes.proofs.four_bytes.Statement.{statement}
+use Rattle.lanes.proofs.four_bytes.Tie as tie
+
+returns : tie.Need-returns
+unfolding big-endian
+returns c =
+    let a = c .before .before .before .before .before .before .before .before .before .args in
+    (omega (arith, ap (λ (n : ℕ). getD (a .l .now) n 0) (add-zero (a .s))), omega arith)
+
+pub four-bytes-spec : {M : Type 1} → statement M
+four-bytes-spec =
+    tie.close (tie.spec (λ c. search needs) (λ c κs. search needs) (λ c. search needs) (λ c. search needs)
+    (λ c. search needs) (λ c κs. search needs) (λ c. search needs) (λ c. search needs) (λ c. search needs)
+    (λ c. search needs) (λ c κs. search needs) (λ c. search needs) (λ c. search needs) (λ c. search needs)
+    (λ c. search needs) (λ c κs. search needs) (λ c. search needs) returns)

@@ -1,0 +1,163 @@
+-- The noise theorem, and that its bound is sharp. Assumes nothing.
+use mathlib.Core.Path.{_≡_, refl, sym, ap, _∙_, subst}
+use mathlib.Core.List.{List, [], _∷_}
+use mathlib.Core.Logic.{⊎-elim}
+use Prim.Native.Nat.{ℕ, zero, suc, _+_, _*_, _-_, _/_, _%_, _^_, _≤_, _<_}
+use native.Mathlib.Nat.{add-assoc, add-zero, mod-lt, mod-eq-of-lt}
+use native.Mathlib.Omega.{arith}
+use lib.Dec.{lit<, lit≤}
+use lib.IntN.{ℤ, pos, negsuc, natAbs}
+use lib.ListN.{length, getD, replicate}
+use Rattle.laws.specs.Lists.{tab, tabFrom, Below}
+use Rattle.laws.specs.Congruence.{Cong}
+use Rattle.laws.specs.Integers.{residue}
+use Rattle.laws.proofs.Tests.{equal-at}
+use Rattle.laws.proofs.Lists.{getD-tab, is-tab, length-tab}
+use Rattle.laws.proofs.Bounds.{tab-below}
+use Rattle.laws.proofs.Congruence.{c-refl, c-eq, c-trans, c-sym, c-add, c-mul, c-mod}
+use Rattle.laws.proofs.Integers.{Sized, over, under, over-at-most, under-at-most, leaves-residue}
+use Rattle.field.specs.Field.{P, Coefficients}
+use Rattle.ring.specs.Elements.{plus}
+use Rattle.lanes.specs.Bits.{bit, placed}
+use Rattle.lanes.specs.Messages.{lifted, embed, judged, read, extracted, extract}
+use Rattle.lanes.proofs.Samplers.{bit-small}
+use Rattle.lanes.proofs.Messages.{embed-even, embed-odd, embed-canonical}
+use Rattle.noise.specs.Lanes.{Lanes, Harmless}
+use Rattle.noise.proofs.Chunks.{Noisy, reads}
+use Rattle.noise.proofs.Four.{Four, worth, Within, On, four-of, lanes-on, on-lanes}
+
+-- ---- one coefficient
+-- the negative parts of the lanes brought to the other side
+apart : {b w : ℕ} (e : Four) → On b e w
+    → Cong P (w + placed (under (e .l0)) (under (e .l1)) (under (e .l2)) (under (e .l3))) (placed (over (e .l0)) (over (e .l1)) (over (e .l2)) (over (e .l3)))
+unfolding worth
+apart {b} {w} e o =
+    c-trans (c-add (c-sym (o .worths)) c-refl)
+    (c-trans (c-eq (gather (residue P (e .l0)) (residue P (e .l1)) (residue P (e .l2)) (residue P (e .l3)) (under (e .l0)) (under (e .l1)) (under (e .l2)) (under (e .l3))))
+    (c-add (c-add (c-add (side (e .l0)) (c-mul c-refl (side (e .l1)))) (c-mul c-refl (side (e .l2)))) (c-mul c-refl (side (e .l3)))))
+  where
+    side : (z : ℤ) → Cong P (residue P z + under z) (over z)
+    side z = leaves-residue (lit< tt) z .leaves
+
+    gather : (a b c d a' b' c' d' : ℕ) → placed a b c d + placed a' b' c' d' ≡ placed (a + a') (b + b') (c + c') (d + d')
+    gather a b c d a' b' c' d' = omega arith
+
+one-coefficient : (n h w : ℕ) → Lanes 16381 w → read ((lifted n h + w) % P) ≡ bit n h + 2 * bit n (h + 1) + 4 * bit n (h + 2) + 8 * bit n (h + 3)
+unfolding lifted
+one-coefficient n h w l =
+    reads ((a + w) % P) (bit n h) (bit n (h + 1)) (bit n (h + 2)) (bit n (h + 3)) _ _ _ _ _ _ _ _
+    (noisy h (o .within .s0)) (noisy (h + 1) (o .within .s1)) (noisy (h + 2) (o .within .s2)) (noisy (h + 3) (o .within .s3))
+    (mod-lt (a + w) (lit< tt)) (moved .same)
+  where
+    e : Four
+    e = four-of l
+
+    o : On 16381 e w
+    o = lanes-on l
+
+    a : ℕ
+    a = placed (2 ^ 15 * bit n h) (2 ^ 15 * bit n (h + 1)) (2 ^ 15 * bit n (h + 2)) (2 ^ 15 * bit n (h + 3))
+
+    noisy : (j : ℕ) {z : ℤ} → Sized z 16381 → Noisy (bit n j) (over z) (under z)
+    noisy j {z} s = record { bit-small = bit-small n j; up = over-at-most z s; down = under-at-most z s }
+
+    moved : Cong P ((a + w) % P + placed (under (e .l0)) (under (e .l1)) (under (e .l2)) (under (e .l3)))
+        (a + placed (over (e .l0)) (over (e .l1)) (over (e .l2)) (over (e .l3)))
+    moved = c-trans (c-add c-mod c-refl) (c-trans (c-eq (add-assoc a w _)) (c-add c-refl (apart e o)))
+
+-- ---- all of them
+-- a byte is its bits
+bits : (n : ℕ) → n < 256 → bit n 0 + 2 * bit n 1 + 4 * bit n 2 + 8 * bit n 3 + 16 * (bit n 4 + 2 * bit n 5 + 4 * bit n 6 + 8 * bit n 7) ≡ n
+bits n h = equal-at (λ m. bit m 0 + 2 * bit m 1 + 4 * bit m 2 + 8 * bit m 3 + 16 * (bit m 4 + 2 * bit m 5 + 4 * bit m 6 + 8 * bit m 7)) (λ m. m) 256 tt n h
+
+plus-at : (a b : List ℕ) (k : ℕ) → k < 64 → getD (plus 64 a b) k 0 ≡ (getD a k 0 + getD b k 0) % P
+unfolding plus
+plus-at a b k h = getD-tab 64 (λ k. (getD a k 0 + getD b k 0) % P) 0 k h
+
+-- small noise never turns a bit
+pub noise-theorem : Harmless 16381
+unfolding extract
+noise-theorem m w bytes coefficients small = sym (is-tab 32 (λ i. extracted (plus 64 (embed m) w) i) 0 m (bytes .size) (λ i h. sym (at i h)))
+  where
+    half : (k n h : ℕ) → k < 64 → getD (embed m) k 0 ≡ lifted n h
+        → read (getD (plus 64 (embed m) w) k 0) ≡ bit n h + 2 * bit n (h + 1) + 4 * bit n (h + 2) + 8 * bit n (h + 3)
+    half k n h q e =
+        ap read (plus-at (embed m) w k q ∙ ap (λ (x : ℕ). (x + getD w k 0) % P) e) ∙ one-coefficient n h (getD w k 0) (small k q)
+
+    at : (i : ℕ) → i < 32 → extracted (plus 64 (embed m) w) i ≡ getD m i 0
+    at i h =
+        (λ j. half (2 * i) (getD m i 0) 0 (omega arith) (embed-even m i h) j + 16 * half (2 * i + 1) (getD m i 0) 4 (omega arith) (embed-odd m i h) j)
+        ∙ bits (getD m i 0) (bytes .each i)
+
+-- ---- no noise
+zeros : List ℕ
+zeros = tab 64 (λ k. 0)
+
+no-lanes : (b : ℕ) → Lanes b 0
+unfolding residue
+no-lanes b = record {
+  e0 = pos 0;
+  e1 = pos 0;
+  e2 = pos 0;
+  e3 = pos 0;
+  small0 = omega arith;
+  small1 = omega arith;
+  small2 = omega arith;
+  small3 = omega arith;
+  congruent = refl;
+}
+
+-- extraction gives back every payload
+pub extract-embed : (payload : List ℕ) → Below 256 32 payload → extract (embed payload) ≡ payload
+unfolding zeros plus
+extract-embed m bytes =
+    ap extract (is-tab 64 _ 0 (embed m) (canonical .size) (λ k h.
+    sym (ap (λ (x : ℕ). (getD (embed m) k 0 + x) % P) (getD-tab 64 (λ k. 0) 0 k h) ∙ ap (λ (x : ℕ). x % P) (add-zero (getD (embed m) k 0)) ∙ mod-eq-of-lt (canonical .each k))))
+    ∙ noise-theorem m zeros bytes (tab-below P 64 (λ k. 0) (lit< tt) (λ k h. lit< tt)) (λ k h. subst (λ (x : ℕ). Lanes 16381 x) (sym (getD-tab 64 (λ k. 0) 0 k h)) (no-lanes 16381))
+  where
+    canonical : Coefficients 64 (embed m)
+    canonical = embed-canonical m
+
+-- ---- the bound is sharp: on a payload of zeros the lanes 0, -1, -16382, -1 in coefficient 0 turn bit 2 (document 01's table)
+unfoldable pub turning : ℕ → ℕ
+turning zero = placed 1 65535 49152 65534
+turning (suc k) = 0
+
+pub turning-lanes : (k : ℕ) → Lanes 16382 (turning k)
+unfolding turning residue
+turning-lanes zero = record {
+  e0 = pos 0;
+  e1 = negsuc 0;
+  e2 = negsuc 16381;
+  e3 = negsuc 0;
+  small0 = lit≤ tt;
+  small1 = lit≤ tt;
+  small2 = lit≤ tt;
+  small3 = lit≤ tt;
+  congruent = refl;
+}
+turning-lanes (suc k) = no-lanes 16382
+
+pub turned : extract (plus 64 (embed (replicate 32 0)) (tab 64 turning)) ≡ 4 ∷ replicate 31 0
+unfolding extract plus embed lifted read judged tab tabFrom turning
+turned = refl
+
+pub sharp : Harmless 16382 → ⊥
+sharp claim =
+    let z : _≡_ {A = ℕ} 4 0 = ap (λ (l : List ℕ). getD l 0 0) (sym turned ∙ claim (replicate 32 0) (tab 64 turning) bytes canonical lanes) in
+    omega arith
+  where
+    bytes : Below 256 32 (replicate 32 0)
+    bytes =
+        let e : tab {A = ℕ} 32 (λ k. 0) ≡ replicate 32 0 = unfold tab tabFrom in refl in
+        subst (λ (l : List ℕ). Below 256 32 l) e (tab-below 256 32 (λ k. 0) (lit< tt) (λ k h. lit< tt))
+
+    below : (k : ℕ) → turning k < P
+    below zero = unfold turning in lit< tt
+    below (suc k) = unfold turning in lit< tt
+
+    canonical : Coefficients 64 (tab 64 turning)
+    canonical = tab-below P 64 turning (lit< tt) (λ k h. below k)
+
+    lanes : (k : ℕ) → k < 64 → Lanes 16382 (getD (tab 64 turning) k 0)
+    lanes k h = subst (λ (x : ℕ). Lanes 16382 x) (sym (getD-tab 64 turning 0 k h)) (turning-lanes k)

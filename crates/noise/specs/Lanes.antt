@@ -1,0 +1,29 @@
+-- Document 01, "Keys and packets": how large the lanes of a coefficient are, and what reading a message through noise means. Assumes nothing.
+use mathlib.Core.Path.{_≡_}
+use mathlib.Core.List.{List}
+use Prim.Native.Nat.{ℕ, _%_, _^_, _≤_, _<_}
+use lib.IntN.{ℤ, pos, _+ℤ_, _*ℤ_, natAbs}
+use lib.ListN.{getD}
+use Rattle.laws.specs.Lists.{Below}
+use Rattle.laws.specs.Integers.{residue}
+use Rattle.field.specs.Field.{P, Coefficients}
+use Rattle.ring.specs.Elements.{plus}
+use Rattle.lanes.specs.Messages.{embed, extract}
+
+-- w is congruent modulo p to e0 + 2^16 e1 + 2^32 e2 + 2^48 e3, with every e from -b to b
+pub record Lanes (b w : ℕ) : Type 0 where
+  pub e0 : ℤ
+  pub e1 : ℤ
+  pub e2 : ℤ
+  pub e3 : ℤ
+  pub small0 : natAbs e0 ≤ b
+  pub small1 : natAbs e1 ≤ b
+  pub small2 : natAbs e2 ≤ b
+  pub small3 : natAbs e3 ≤ b
+  pub congruent : w % P ≡ residue P (e0 +ℤ pos (2 ^ 16) *ℤ e1 +ℤ pos (2 ^ 32) *ℤ e2 +ℤ pos (2 ^ 48) *ℤ e3)
+
+-- whatever the payload of 32 bytes, noise w of which no lane is beyond b turns no bit of it
+abbrev pub Harmless : ℕ → Type 0
+Harmless b =
+    (payload w : List ℕ) → Below 256 32 payload → Coefficients 64 w → ((k : ℕ) → k < 64 → Lanes b (getD w k 0))
+    → extract (plus 64 (embed payload) w) ≡ payload

@@ -1,0 +1,2 @@
+-- What the theorems on noise are stated with.
+pub mod Lanes
