@@ -7,3 +7,4 @@ pub mod Congruence
 pub mod Powers
 pub mod Pigeonhole
 pub mod ModularSolver
+pub mod Bits

@@ -38,3 +38,11 @@ mapped-more g i v old new h e m = record {
 -- the loop's end
 pub mapped-all : (g : ℕ → ℕ → ℕ) (n : ℕ) (old new : List ℕ) → length old ≡ n → Mapped g n old new → new ≡ tab n (λ j. g j (getD old j 0))
 mapped-all g n old new e m = is-tab n (λ j. g j (getD old j 0)) 0 new (m .same-length ∙ e) (m .passed)
+
+-- the count as another expression has it
+pub mapped-at : (g : ℕ → ℕ → ℕ) (i j : ℕ) (old new : List ℕ) → i ≡ j → Mapped g i old new → Mapped g j old new
+mapped-at g i j old new e m = subst (λ (k : ℕ). Mapped g k old new) e m
+
+-- the loop's end, where the count is known to be n
+pub mapped-done : (g : ℕ → ℕ → ℕ) (i n : ℕ) (old new : List ℕ) → i ≡ n → length old ≡ n → Mapped g i old new → new ≡ tab n (λ j. g j (getD old j 0))
+mapped-done g i n old new e l m = mapped-all g n old new l (mapped-at g i n old new e m)
