@@ -4,6 +4,7 @@ use mathlib.Core.List.{List}
 use Prim.Native.Nat.{ℕ, zero, suc, _+_, _-_, _*_, _/_, _%_, _^_}
 use lib.Bits.{bitXor, bitAnd, bitOr}
 use lib.ListN.{getD, set}
+use Rattle.laws.specs.Bits.{bit}
 use Rattle.laws.specs.Lists.{tab}
 use Rattle.keccak.specs.Keccak.{offset, rc}
 
@@ -83,3 +84,10 @@ rounds (suc n) s = round (rounds n s) n
 
 unfoldable pub keccak-p : List ℕ → List ℕ
 keccak-p s = rounds 24 s
+
+-- the string of the lanes: bit i is bit i mod 64 of lane i / 64
+unfoldable pub bit-at : List ℕ → ℕ → ℕ
+bit-at l i = bit (getD l (i / 64) 0) (i % 64)
+
+unfoldable pub bits : List ℕ → List ℕ
+bits l = tab 1600 (bit-at l)

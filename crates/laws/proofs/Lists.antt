@@ -6,7 +6,7 @@ use native.Mathlib.Nat.{add-zero, add-suc, suc-add, zero-add, le-of-suc-le-suc, 
 use native.Mathlib.Omega.{arith}
 use lib.ListN.{length, getD}
 use lib.Seq.{ext-getD}
-use Rattle.laws.specs.Lists.{tab, tabFrom}
+use Rattle.laws.specs.Lists.{tab, tabFrom, Below}
 
 module _ {A : Type 0} where
   length-from : (i n : ℕ) (f : ℕ → A) → length (tabFrom i n f) ≡ n
@@ -44,3 +44,13 @@ module _ {A : Type 0} where
   pub tab-ext : (n : ℕ) (f g : ℕ → A) → ((k : ℕ) → k < n → f k ≡ g k) → tab n f ≡ tab n g
   unfolding tab
   tab-ext n f g e = from-ext 0 n f g (λ k a b. e k (omega arith))
+
+-- numbers that a rule keeps below b
+from-each : (b : ℕ) (i n : ℕ) (f : ℕ → ℕ) → 0 < b → ((k : ℕ) → f k < b) → (k : ℕ) → getD (tabFrom i n f) k 0 < b
+unfolding tabFrom
+from-each b i zero f p h k = p
+from-each b i (suc n) f p h zero = h i
+from-each b i (suc n) f p h (suc k) = from-each b (suc i) n f p h k
+
+pub below-tab : (b n : ℕ) (f : ℕ → ℕ) → 0 < b → ((k : ℕ) → f k < b) → Below b n (tab n f)
+below-tab b n f p h = record { size = length-tab n f; each = unfold tab in from-each b 0 n f p h }
