@@ -1,13 +1,13 @@
 -- Each step on lanes is FIPS 202's step on bits: if the lanes hold a state array, they hold the next one after it. Assumes nothing.
-use mathlib.Core.Path.{_≡_, refl, sym, ap, ap₂, _∙_, subst}
+use mathlib.Core.Path.{_≡_, sym, ap, ap₂, _∙_, subst}
 use mathlib.Core.Bool.{Bool}
 use mathlib.Core.List.{List}
-use Prim.Native.Nat.{ℕ, zero, suc, _+_, _-_, _*_, _/_, _%_, _^_, _<_, _≤_}
+use Prim.Native.Nat.{ℕ, zero, suc, _+_, _-_, _*_, _%_, _^_, _<_, _≤_}
 use native.Mathlib.Nat.{add-zero}
 use native.Mathlib.Omega.{arith}
-use lib.Bits.{bitXor, bitAnd, xor-lt, and-lt}
+use lib.Bits.{bitXor, xor-lt, and-lt}
 use lib.Dec.{T, eqb, eqb→eq, ltb, ltb→lt, eqb·suc-zero}
-use lib.ListN.{getD, length, set, length-set}
+use lib.ListN.{getD, length-set}
 use lib.Pow.{pow-pos}
 use lib.Seq.{getD-set-same, getD-set-other}
 use Rattle.laws.specs.Bits.{bit}

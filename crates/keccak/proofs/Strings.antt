@@ -1,13 +1,15 @@
 -- Keccak-p on a string of 1600 bits is the permutation on the lanes that have these bits. Assumes nothing.
-use mathlib.Core.Path.{_≡_, refl, sym, ap, ap₂, _∙_}
+use mathlib.Core.Path.{_≡_, sym, ap, ap₂, _∙_}
+use mathlib.Core.Bool.{Bool, true, false}
 use mathlib.Core.List.{List}
 use Prim.Native.Nat.{ℕ, _+_, _*_, _/_, _%_, _^_, _<_}
 use native.Mathlib.Omega.{arith}
+use lib.Dec.{eqb}
 use lib.ListN.{getD, length}
 use Rattle.laws.specs.Bits.{bit}
-use Rattle.laws.specs.Lists.{Below, tab}
-use Rattle.laws.proofs.Lists.{length-tab, getD-tab, tab-ext}
-use Rattle.keccak.specs.Keccak.{Rnds, toArray, toString, Keccak-p}
+use Rattle.laws.specs.Lists.{Below}
+use Rattle.laws.proofs.Lists.{length-tab, getD-tab, tab-ext, below-tab}
+use Rattle.keccak.specs.Keccak.{StateArray, _⊕_, pick, θ, ρ, π, χ, RC, ι, Rnd, Rnds, toArray, toString, Keccak-p}
 use Rattle.keccak.specs.Lanes.{keccak-p, bit-at, bits}
 use Rattle.keccak.proofs.Lanewise.{Holds, keccak-holds}
 
@@ -45,3 +47,21 @@ keccak-p-is-fips202 l g =
     let e : i / 64 % 5 + 5 * (i / 320) ≡ i / 64 = omega arith in
     sym (h .same (i / 64 % 5) (i / 320) (i % 64) (omega arith) (omega arith) (omega arith))
     ∙ ap (λ (n : ℕ). bit (getD (keccak-p l) n 0) (i % 64)) e)
+
+-- whatever it is applied to, Keccak-p gives 1600 bits
+pick-lt : (t : Bool) (a b : ℕ) → a < 2 → b < 2 → pick t a b < 2
+pick-lt true a b h k = h
+pick-lt false a b h k = k
+
+Rnd-bit : (a : StateArray) (i x y z : ℕ) → Rnd a i x y z < 2
+unfolding Rnd ι χ
+Rnd-bit a i x y z =
+    let c = χ (π (ρ (θ a))) x y z in
+    let h : χ (π (ρ (θ a))) x y z < 2 = omega arith in
+    pick-lt (eqb x 0) (pick (eqb y 0) (c ⊕ RC i z) c) c (pick-lt (eqb y 0) (c ⊕ RC i z) c (omega arith) h) h
+
+pub below-Keccak-p : (s : List ℕ) → Below 2 1600 (Keccak-p s)
+unfolding Keccak-p toString Rnds
+below-Keccak-p s =
+    below-tab 2 1600 (λ i. Rnds 24 (toArray s) (i / 64 % 5) (i / 320) (i % 64)) (omega arith)
+    (λ i. Rnd-bit (Rnds 23 (toArray s)) 23 (i / 64 % 5) (i / 320) (i % 64))

@@ -6,7 +6,7 @@ use native.Mathlib.Nat.{add-comm, add-zero, not-suc-le-zero, le-of-suc-le-suc, m
 use native.Mathlib.Numerals.{add-one}
 use native.Mathlib.Omega.{arith}
 use lib.Bits.{bitXor, bitAnd, xor-shr, xor-mod, and-shr, and-mod, xor-add-and, and-mask, block-half, block-odd}
-use lib.Pow.{pow-pos, pow-mono, split, high, shr-shr, ones-split, le-ones}
+use lib.Pow.{pow-pos, pow-mono, split, high, shr-shr, ones-split}
 use Rattle.laws.specs.Bits.{bit}
 
 pub bit-lt : (n z : ℕ) → bit n z < 2

@@ -2,7 +2,7 @@
 use borrow.Author.Needs.{needs}
 use native.Mathlib.Omega.{arith}
 use Prim.Native.Nat.{_+_, _*_, _-_, _≤_, _<_}
-use mathlib.Core.Path.{refl, ap}
+use mathlib.Core.Path.{refl}
 use lib.ListN.{replicate}
 use Rattle.laws.proofs.Updates.{Filled, mapped-none, mapped-more, mapped-at, mapped-done}
 use Rattle.keccak.specs.Lanes.{mixed, chi}
