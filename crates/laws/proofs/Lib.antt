@@ -19,3 +19,4 @@ pub mod Interpolation
 pub mod Convolution
 pub mod Bounds
 pub mod Integers
+pub mod Bits

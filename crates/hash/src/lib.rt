@@ -1,0 +1,153 @@
+// The sponge of FIPS 202, chapters 4 to 6, on lent slices of bytes, for any rate; SHAKE256 and SHA3-256.
+ghost use mathlib.Core.Path.{_≡_};
+ghost use Prim.Native.Nat.{_+_, _%_, _<_, _≤_};
+ghost use lib.ListN.{length};
+ghost use Rattle.hash.specs.Fips202.{shake256, sha3-256};
+ghost use Rattle.hash.specs.Running.{run, byte-of, xor-byte, bytes-from, lane-stored, feed, closed, drawn, rest, hashed};
+
+fn wide(b: u8) -> u64
+    ensures { λ r. ⌜ r ≡ b ⌝ }
+{
+    b as u64
+}
+
+fn least(a: usize, b: usize) -> usize
+    requires { ⌜ (0 < a) × (0 < b) ⌝ }
+    ensures { λ r. ⌜ (0 < r) × (r ≤ a) × (r ≤ b) ⌝ }
+{
+    if a < b { a } else { b }
+}
+
+fn add_byte(lanes: &mut [u64; 25], at: usize, b: u8)
+    requires { ⌜ at < 200 ⌝ }
+    ensures { λ _. ⌜ now (lanes .exit) ≡ xor-byte (now (lanes .entry)) at b ⌝ }
+{
+    lanes[at / 8] = lanes[at / 8] ^ (wide(b) << ((at % 8) * 8) as u64);
+}
+
+fn byte_at(lanes: &[u64; 25], at: usize) -> u8
+    requires { ⌜ at < 200 ⌝ }
+    ensures { λ r. ⌜ r ≡ byte-of (now (lanes .entry)) at ⌝ }
+{
+    ((lanes[at / 8] >> ((at % 8) * 8) as u64) % 256) as u8
+}
+
+// Eight stores side by side, which LLVM makes one.
+fn put_lane(x: u64, out: &mut [u8], at: usize)
+    requires { ⌜ at + 8 ≤ length (now out) ⌝ }
+    ensures { λ _. ⌜ now (out .exit) ≡ lane-stored x (now (out .entry)) at ⌝ }
+{
+    out[at] = (x % 256) as u8;
+    out[at + 1] = (x / 256 % 256) as u8;
+    out[at + 2] = (x / 65536 % 256) as u8;
+    out[at + 3] = (x / 16777216 % 256) as u8;
+    out[at + 4] = (x / 4294967296 % 256) as u8;
+    out[at + 5] = (x / 1099511627776 % 256) as u8;
+    out[at + 6] = (x / 281474976710656 % 256) as u8;
+    out[at + 7] = (x / 72057594037927936 % 256) as u8;
+}
+
+fn copy_lanes(lanes: &[u64; 25], at: usize, out: &mut [u8])
+    requires { ⌜ (at % 8 ≡ 0) × (length (now out) % 8 ≡ 0) × (at + length (now out) ≤ 200) ⌝ }
+    ensures { λ _. ⌜ now (out .exit) ≡ bytes-from (now (lanes .entry)) at (length (now (out .entry))) ⌝ }
+{
+    let mut i: usize = 0;
+    while i < out.len() {
+        put_lane(lanes[(at + i) / 8], out, i);
+        i += 8;
+    }
+}
+
+fn copy_bytes(lanes: &[u64; 25], at: usize, out: &mut [u8])
+    requires { ⌜ at + length (now out) ≤ 200 ⌝ }
+    ensures { λ _. ⌜ now (out .exit) ≡ bytes-from (now (lanes .entry)) at (length (now (out .entry))) ⌝ }
+{
+    let mut i: usize = 0;
+    while i < out.len() {
+        out[i] = byte_at(lanes, at + i);
+        i += 1;
+    }
+}
+
+// From a lane's start whole lanes are copied, then what is left of the slice.
+fn copy_out(lanes: &[u64; 25], at: usize, out: &mut [u8])
+    requires { ⌜ at + length (now out) ≤ 200 ⌝ }
+    ensures { λ _. ⌜ now (out .exit) ≡ bytes-from (now (lanes .entry)) at (length (now (out .entry))) ⌝ }
+{
+    if at % 8 == 0 {
+        let whole = out.len() / 8 * 8;
+        copy_lanes(lanes, at, &mut out[0..whole]);
+        copy_bytes(lanes, at + whole, &mut out[whole..]);
+    } else {
+        copy_bytes(lanes, at, out);
+    }
+}
+
+pub fn absorb(lanes: &mut [u64; 25], rate: usize, start: usize, part: &[u8]) -> usize
+    requires { ⌜ (start < rate) × (rate ≤ 200) ⌝ }
+    ensures { λ r. ⌜ (run (now (lanes .exit)) r ≡ feed rate (run (now (lanes .entry)) start) (now (part .entry))) × (r < rate) ⌝ }
+{
+    let mut at = start;
+    let mut i: usize = 0;
+    while i < part.len() {
+        add_byte(lanes, at, part[i]);
+        at += 1;
+        if at == rate {
+            keccak::permute(lanes);
+            at = 0;
+        }
+        i += 1;
+    }
+    at
+}
+
+pub fn finish(lanes: &mut [u64; 25], rate: usize, at: usize, suffix: u8)
+    requires { ⌜ (at < rate) × (rate ≤ 200) ⌝ }
+    ensures { λ _. ⌜ run (now (lanes .exit)) rate ≡ closed rate (run (now (lanes .entry)) at) suffix ⌝ }
+{
+    add_byte(lanes, at, suffix);
+    add_byte(lanes, rate - 1, 128);
+}
+
+pub fn squeeze(lanes: &mut [u64; 25], rate: usize, start: usize, out: &mut [u8]) -> usize
+    requires { ⌜ (0 < rate) × (start ≤ rate) × (rate ≤ 200) ⌝ }
+    ensures { λ r. ⌜ (now (out .exit) ≡ drawn rate (length (now (out .entry))) (run (now (lanes .entry)) start)) × (run (now (lanes .exit)) r ≡ rest rate (length (now (out .entry))) (run (now (lanes .entry)) start)) × (r ≤ rate) ⌝ }
+{
+    let mut at = start;
+    let mut i: usize = 0;
+    while i < out.len() {
+        if at == rate {
+            keccak::permute(lanes);
+            at = 0;
+        }
+        let n = least(rate - at, out.len() - i);
+        let e = i + n;
+        copy_out(lanes, at, &mut out[i..e]);
+        at += n;
+        i = e;
+    }
+    at
+}
+
+fn hash(rate: usize, suffix: u8, message: &[u8], output: &mut [u8])
+    requires { ⌜ (0 < rate) × (rate ≤ 200) ⌝ }
+    ensures { λ _. ⌜ now (output .exit) ≡ hashed rate suffix (now (message .entry)) (length (now (output .entry))) ⌝ }
+{
+    let mut lanes = [0u64; 25];
+    let at = absorb(&mut lanes, rate, 0, message);
+    finish(&mut lanes, rate, at, suffix);
+    squeeze(&mut lanes, rate, rate, output);
+}
+
+pub fn shake256(message: &[u8], output: &mut [u8])
+    ensures { λ _. ⌜ now (output .exit) ≡ shake256 (now (message .entry)) (length (now (output .entry))) ⌝ }
+{
+    hash(136, 31, message, output);
+}
+
+pub fn sha3_256(message: &[u8], output: &mut [u8])
+    requires { ⌜ length (now output) ≡ 32 ⌝ }
+    ensures { λ _. ⌜ now (output .exit) ≡ sha3-256 (now (message .entry)) ⌝ }
+{
+    hash(136, 6, message, output);
+}

@@ -1,0 +1,109 @@
+-- The digits of sums of blocks, of `xor`, `and`, and of a complement. Assumes nothing.
+use mathlib.Core.Path.{_≡_, refl, sym, ap, ap₂, _∙_}
+use mathlib.Core.Logic.{_⊎_, inl, inr, ⊎-elim}
+use Prim.Native.Nat.{ℕ, zero, suc, _+_, _-_, _*_, _/_, _%_, _^_, _<_, _≤_}
+use native.Mathlib.Nat.{add-comm, add-zero, not-suc-le-zero, le-of-suc-le-suc, mod-eq-of-lt, div-one, div-eq-of-lt, lt-of-lt-of-le}
+use native.Mathlib.Numerals.{add-one}
+use native.Mathlib.Omega.{arith}
+use lib.Bits.{bitXor, bitAnd, xor-shr, xor-mod, and-shr, and-mod, xor-add-and, and-mask, block-half, block-odd}
+use lib.Pow.{pow-pos, pow-mono, split, high, shr-shr, ones-split}
+use Rattle.laws.specs.Bits.{bit}
+
+pub bit-lt : (n z : ℕ) → bit n z < 2
+unfolding bit
+bit-lt n z = omega arith
+
+pub zero-or-one : (x : ℕ) → x < 2 → (x ≡ 0) ⊎ (x ≡ 1)
+zero-or-one zero h = inl refl
+zero-or-one (suc zero) h = inr refl
+zero-or-one (suc (suc x)) h = absurd (not-suc-le-zero (le-of-suc-le-suc (le-of-suc-le-suc h)))
+
+-- two functions of two digits that agree at the four pairs
+on-digits : (f g : ℕ → ℕ → ℕ) → f 0 0 ≡ g 0 0 → f 0 1 ≡ g 0 1 → f 1 0 ≡ g 1 0 → f 1 1 ≡ g 1 1 → (x y : ℕ) → x < 2 → y < 2 → f x y ≡ g x y
+on-digits f g e00 e01 e10 e11 x y hx hy =
+    ⊎-elim
+    (λ p. ⊎-elim (λ q. ap₂ f p q ∙ e00 ∙ sym (ap₂ g p q)) (λ q. ap₂ f p q ∙ e01 ∙ sym (ap₂ g p q)) (zero-or-one y hy))
+    (λ p. ⊎-elim (λ q. ap₂ f p q ∙ e10 ∙ sym (ap₂ g p q)) (λ q. ap₂ f p q ∙ e11 ∙ sym (ap₂ g p q)) (zero-or-one y hy))
+    (zero-or-one x hx)
+
+pub bit-xor : (a b z : ℕ) → bit (bitXor a b) z ≡ (bit a z + bit b z) % 2
+unfolding bit
+bit-xor a b z =
+    ap (λ (n : ℕ). n % 2) (xor-shr a b z) ∙ xor-mod (a / 2 ^ z) (b / 2 ^ z) 1
+    ∙ on-digits bitXor (λ x y. (x + y) % 2) refl refl refl refl (a / 2 ^ z % 2) (b / 2 ^ z % 2) (omega arith) (omega arith)
+
+pub bit-and : (a b z : ℕ) → bit (bitAnd a b) z ≡ bit a z * bit b z
+unfolding bit
+bit-and a b z =
+    ap (λ (n : ℕ). n % 2) (and-shr a b z) ∙ and-mod (a / 2 ^ z) (b / 2 ^ z) 1
+    ∙ on-digits bitAnd (λ x y. x * y) refl refl refl refl (a / 2 ^ z % 2) (b / 2 ^ z % 2) (omega arith) (omega arith)
+
+-- a number cut at place k: its digits above, and below
+pub bit-high : (h l k z : ℕ) → l < 2 ^ k → bit (h * 2 ^ k + l) (k + z) ≡ bit h z
+unfolding bit
+bit-high h l k z e = ap (λ (n : ℕ). n % 2) (sym (shr-shr (h * 2 ^ k + l) k z)) ∙ ap (λ (n : ℕ). n / 2 ^ z % 2) (high h k e)
+
+bit-suc : (n z : ℕ) → bit n (suc z) ≡ bit (n / 2) z
+unfolding bit
+bit-suc n z = ap (λ (k : ℕ). n / 2 ^ k % 2) (sym (add-one z) ∙ add-comm z 1) ∙ ap (λ (m : ℕ). m % 2) (sym (shr-shr n 1 z))
+
+pub bit-low : (k z h l : ℕ) → z < k → bit (h * 2 ^ k + l) z ≡ bit l z
+bit-low zero z h l e = absurd (not-suc-le-zero e)
+bit-low (suc k) zero h l e =
+    unfold bit in ap (λ (m : ℕ). m % 2) (div-one (h * 2 ^ suc k + l)) ∙ block-odd h k l ∙ sym (ap (λ (m : ℕ). m % 2) (div-one l))
+bit-low (suc k) (suc z) h l e =
+    bit-suc (h * 2 ^ suc k + l) z ∙ ap (λ (m : ℕ). bit m z) (block-half h k l) ∙ bit-low k z h (l / 2) (le-of-suc-le-suc e)
+    ∙ sym (bit-suc l z)
+
+pub bit-shr : (n k z : ℕ) → bit (n / 2 ^ k) z ≡ bit n (k + z)
+unfolding bit
+bit-shr n k z = ap (λ (m : ℕ). m % 2) (shr-shr n k z)
+
+pub bit-mod : (n k z : ℕ) → z < k → bit (n % 2 ^ k) z ≡ bit n z
+bit-mod n k z h = sym (bit-low k z (n / 2 ^ k) (n % 2 ^ k) h) ∙ ap (λ (m : ℕ). bit m z) (split n k)
+
+-- past its top a number's digits are 0
+pub bit-small : (n z : ℕ) → n < 2 ^ z → bit n z ≡ 0
+unfolding bit
+bit-small n z h = ap (λ (m : ℕ). m % 2) (div-eq-of-lt h)
+
+pub bit-past : (n k z : ℕ) → n < 2 ^ k → k ≤ z → bit n z ≡ 0
+bit-past n k z h l = bit-small n z (lt-of-lt-of-le h (pow-mono {i = k} {j = z} l))
+
+pub bit-zero : (z : ℕ) → bit 0 z ≡ 0
+bit-zero z = bit-small 0 z (pow-pos z)
+
+-- the digits of n * 2 ^ k
+pub bit-shl : (n k z : ℕ) → bit (n * 2 ^ k) (k + z) ≡ bit n z
+bit-shl n k z = ap (λ (m : ℕ). bit m (k + z)) (sym (add-zero (n * 2 ^ k))) ∙ bit-high n 0 k z (pow-pos k)
+
+pub bit-shl-low : (n k z : ℕ) → z < k → bit (n * 2 ^ k) z ≡ 0
+bit-shl-low n k z h = ap (λ (m : ℕ). bit m z) (sym (add-zero (n * 2 ^ k))) ∙ bit-low k z n 0 h ∙ bit-zero z
+
+pub bit-add-zero : (n z : ℕ) → (bit n z + 0) % 2 ≡ bit n z
+bit-add-zero n z = ap (λ (m : ℕ). m % 2) (add-zero (bit n z)) ∙ mod-eq-of-lt (bit-lt n z)
+
+-- w ones
+bit-ones : (j z : ℕ) → bit (2 ^ (suc j + z) - 1) z ≡ 1
+bit-ones j z =
+    ap (λ (n : ℕ). bit n z) (ones-split (suc j) z) ∙ ap (bit ((2 ^ suc j - 1) * 2 ^ z + (2 ^ z - 1))) (sym (add-zero z))
+    ∙ bit-high (2 ^ suc j - 1) (2 ^ z - 1) z 0 (let p : 0 < 2 ^ z = pow-pos z in omega arith) ∙ lowest j
+  where
+    lowest : (j : ℕ) → bit (2 ^ suc j - 1) 0 ≡ 1
+    lowest j =
+        let e : suc j ≡ j + 1 = omega arith in
+        ap (λ (n : ℕ). bit (2 ^ n - 1) 0) e ∙ ap (λ (n : ℕ). bit n 0) (ones-split j 1) ∙ bit-low 1 0 (2 ^ j - 1) 1 (omega arith)
+        ∙ (unfold bit in refl)
+
+-- the complement in w digits
+not-xor : (w a : ℕ) → a < 2 ^ w → (2 ^ w - 1) - a ≡ bitXor a (2 ^ w - 1)
+not-xor w a h =
+    let m : bitAnd a (2 ^ w - 1) ≡ a = and-mask a w ∙ mod-eq-of-lt h in
+    let e : bitXor a (2 ^ w - 1) + bitAnd a (2 ^ w - 1) * 2 ≡ a + (2 ^ w - 1) = xor-add-and a (2 ^ w - 1) in
+    omega arith
+
+pub bit-not : (w a z : ℕ) → a < 2 ^ w → z < w → bit ((2 ^ w - 1) - a) z ≡ (bit a z + 1) % 2
+bit-not w a z h l =
+    let e : w ≡ suc (w - suc z) + z = omega arith in
+    ap (λ (n : ℕ). bit n z) (not-xor w a h) ∙ bit-xor a (2 ^ w - 1) z
+    ∙ ap (λ (n : ℕ). (bit a z + n) % 2) (ap (λ (n : ℕ). bit (2 ^ n - 1) z) e ∙ bit-ones (w - suc z) z)
