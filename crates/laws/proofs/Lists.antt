@@ -46,16 +46,6 @@ module _ {A : Type 0} where
   unfolding tab
   tab-ext n f g e = from-ext 0 n f g (λ k a b. e k (omega arith))
 
--- numbers that a rule keeps below b
-from-each : (b : ℕ) (i n : ℕ) (f : ℕ → ℕ) → 0 < b → ((k : ℕ) → f k < b) → (k : ℕ) → getD (tabFrom i n f) k 0 < b
-unfolding tabFrom
-from-each b i zero f p h k = p
-from-each b i (suc n) f p h zero = h i
-from-each b i (suc n) f p h (suc k) = from-each b (suc i) n f p h k
-
-pub below-tab : (b n : ℕ) (f : ℕ → ℕ) → 0 < b → ((k : ℕ) → f k < b) → Below b n (tab n f)
-below-tab b n f p h = record { size = length-tab n f; each = unfold tab in from-each b 0 n f p h }
-
 -- ---- a list given by an index, cut in two
 module _ {A : Type 0} where
   from-add : (i n k : ℕ) (f : ℕ → A) → tabFrom i (n + k) f ≡ tabFrom i n f ++ tabFrom (i + n) k f
