@@ -7,7 +7,8 @@ use lib.ListN.{getD}
 use Rattle.laws.specs.Lists.{Below}
 use Rattle.laws.specs.Integers.{residue}
 use Rattle.field.specs.Field.{P, Coefficients}
-use Rattle.ring.specs.Elements.{plus}
+use Rattle.ring.specs.Elements.{plus, minus}
+use Rattle.ring.specs.Matrices.{cell, ring-dot}
 use Rattle.lanes.specs.Messages.{embed, extract}
 
 -- w is congruent modulo p to e0 + 2^16 e1 + 2^32 e2 + 2^48 e3, with every e from -b to b
@@ -27,3 +28,7 @@ abbrev pub Harmless : ℕ → Type 0
 Harmless b =
     (payload w : List ℕ) → Below 256 32 payload → Coefficients 64 w → ((k : ℕ) → k < 64 → Lanes b (getD w k 0))
     → extract (plus 64 (embed payload) w) ≡ payload
+
+-- b·c - d·a, of vectors of n ring elements: what an opening leaves beside the embedding
+unfoldable pub noise : ℕ → List ℕ → List ℕ → List ℕ → List ℕ → List ℕ
+noise n a b c d = minus 64 (ring-dot n (cell b) (cell c)) (ring-dot n (cell d) (cell a))
