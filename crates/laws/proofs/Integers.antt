@@ -127,27 +127,33 @@ module _ {m : ℕ} (positive : 0 < m) where
   leaves-one {z} p q = c-cancel (under z) positive (c-trans (p .leaves) (c-sym (q .leaves)))
 
   pub leaves-add : {x y : ℤ} {a b : ℕ} → Leaves m x a → Leaves m y b → Leaves m (x +ℤ y) (a + b)
-  leaves-add {x} {y} {a} {b} p q = record { leaves = c-cancel (under x + under y) positive
-      (c-trans (c-eq (gather a b (under x) (under y) (under (x +ℤ y))))
-      (c-trans (c-add c-refl (c-add (p .leaves) (q .leaves))) (c-eq (sym (add-parts x y))))) }
+  leaves-add {x} {y} {a} {b} p q = record {
+    leaves = c-cancel (under x + under y) positive
+        (c-trans (c-eq (gather a b (under x) (under y) (under (x +ℤ y))))
+        (c-trans (c-add c-refl (c-add (p .leaves) (q .leaves))) (c-eq (sym (add-parts x y)))));
+  }
     where
       gather : (a b u v w : ℕ) → a + b + w + (u + v) ≡ w + (a + u + (b + v))
       gather a b u v w = omega arith
 
   pub leaves-neg : {x : ℤ} {a b : ℕ} → Cong m (a + b) 0 → Leaves m x a → Leaves m (negℤ x) b
-  leaves-neg {x} {a} {b} e p = record { leaves =
-      c-trans (c-eq (ap (λ (n : ℕ). b + n) (neg-under x)))
-      (c-trans (c-add c-refl (c-sym (p .leaves)))
-      (c-trans (c-eq (gather a b (under x))) (c-trans (c-add e c-refl) (c-eq (zero-add (under x) ∙ sym (neg-over x)))))) }
+  leaves-neg {x} {a} {b} e p = record {
+    leaves =
+        c-trans (c-eq (ap (λ (n : ℕ). b + n) (neg-under x)))
+        (c-trans (c-add c-refl (c-sym (p .leaves)))
+        (c-trans (c-eq (gather a b (under x))) (c-trans (c-add e c-refl) (c-eq (zero-add (under x) ∙ sym (neg-over x))))));
+  }
     where
       gather : (a b u : ℕ) → b + (a + u) ≡ a + b + u
       gather a b u = omega arith
 
   pub leaves-mul : {x y : ℤ} {a b : ℕ} → Leaves m x a → Leaves m y b → Leaves m (x *ℤ y) (a * b)
-  leaves-mul {x} {y} {a} {b} p q = record { leaves = c-cancel (over x * under y + under x * over y) positive
-      (c-trans (c-add c-refl (c-add (c-mul (c-sym (p .leaves)) c-refl) (c-mul c-refl (c-sym (q .leaves)))))
-      (c-trans (c-eq (gather a b (under x) (under y) (under (x *ℤ y))))
-      (c-trans (c-add c-refl (c-add (c-mul (p .leaves) (q .leaves)) c-refl)) (c-eq (sym (mul-parts x y)))))) }
+  leaves-mul {x} {y} {a} {b} p q = record {
+    leaves = c-cancel (over x * under y + under x * over y) positive
+        (c-trans (c-add c-refl (c-add (c-mul (c-sym (p .leaves)) c-refl) (c-mul c-refl (c-sym (q .leaves)))))
+        (c-trans (c-eq (gather a b (under x) (under y) (under (x *ℤ y))))
+        (c-trans (c-add c-refl (c-add (c-mul (p .leaves) (q .leaves)) c-refl)) (c-eq (sym (mul-parts x y))))));
+  }
     where
       gather : (a b u v w : ℕ) → a * b + w + ((a + u) * v + u * (b + v)) ≡ w + ((a + u) * (b + v) + u * v)
       gather a b u v w = omega arith

@@ -102,8 +102,10 @@ pub worth-negative : (e : Four) → Cong P (worth (negative e)) (P - worth e % P
 unfolding worth
 worth-negative e =
     c-trans (worth-of (negative e) (minus (self (e .l0))) (minus (self (e .l1))) (minus (self (e .l2))) (minus (self (e .l3))))
-    (record { same = mod-ring P p-positive (residue P (e .l0) ∷ residue P (e .l1) ∷ residue P (e .l2) ∷ residue P (e .l3) ∷ [])
-        (quoted (neg (at 0)) (neg (at 1)) (neg (at 2)) (neg (at 3))) (neg (quoted (at 0) (at 1) (at 2) (at 3))) refl })
+    (record {
+      same = mod-ring P p-positive (residue P (e .l0) ∷ residue P (e .l1) ∷ residue P (e .l2) ∷ residue P (e .l3) ∷ [])
+          (quoted (neg (at 0)) (neg (at 1)) (neg (at 2)) (neg (at 3))) (neg (quoted (at 0) (at 1) (at 2) (at 3))) refl;
+    })
 
 pub worth-mul : (e f : Four) → Cong P (worth (mul e f)) (worth e * worth f)
 unfolding worth
@@ -113,13 +115,15 @@ worth-mul e f =
     (plus (plus (times (e .l0) (f .l1)) (times (e .l1) (f .l0))) (minus (plus (times (e .l2) (f .l3)) (times (e .l3) (f .l2)))))
     (plus (plus (plus (times (e .l0) (f .l2)) (times (e .l1) (f .l1))) (times (e .l2) (f .l0))) (plus (plus (times (e .l1) (f .l3)) (times (e .l2) (f .l2))) (times (e .l3) (f .l1))))
     (plus (plus (plus (plus (times (e .l0) (f .l3)) (times (e .l1) (f .l2))) (times (e .l2) (f .l1))) (times (e .l3) (f .l0))) (plus (times (e .l2) (f .l3)) (times (e .l3) (f .l2)))))
-    (record { same = mod-ring P p-positive
-        (residue P (e .l0) ∷ residue P (e .l1) ∷ residue P (e .l2) ∷ residue P (e .l3) ∷ residue P (f .l0) ∷ residue P (f .l1) ∷ residue P (f .l2) ∷ residue P (f .l3) ∷ [])
-        (quoted (by 0 0 ⊞ neg (by 1 3 ⊞ by 2 2 ⊞ by 3 1) ⊞ neg (by 3 3))
-        (by 0 1 ⊞ by 1 0 ⊞ neg (by 2 3 ⊞ by 3 2))
-        (by 0 2 ⊞ by 1 1 ⊞ by 2 0 ⊞ (by 1 3 ⊞ by 2 2 ⊞ by 3 1))
-        (by 0 3 ⊞ by 1 2 ⊞ by 2 1 ⊞ by 3 0 ⊞ (by 2 3 ⊞ by 3 2)))
-        (quoted (at 0) (at 1) (at 2) (at 3) ⊠ quoted (at 4) (at 5) (at 6) (at 7)) refl })
+    (record {
+      same = mod-ring P p-positive
+          (residue P (e .l0) ∷ residue P (e .l1) ∷ residue P (e .l2) ∷ residue P (e .l3) ∷ residue P (f .l0) ∷ residue P (f .l1) ∷ residue P (f .l2) ∷ residue P (f .l3) ∷ [])
+          (quoted (by 0 0 ⊞ neg (by 1 3 ⊞ by 2 2 ⊞ by 3 1) ⊞ neg (by 3 3))
+          (by 0 1 ⊞ by 1 0 ⊞ neg (by 2 3 ⊞ by 3 2))
+          (by 0 2 ⊞ by 1 1 ⊞ by 2 0 ⊞ (by 1 3 ⊞ by 2 2 ⊞ by 3 1))
+          (by 0 3 ⊞ by 1 2 ⊞ by 2 1 ⊞ by 3 0 ⊞ (by 2 3 ⊞ by 3 2)))
+          (quoted (at 0) (at 1) (at 2) (at 3) ⊠ quoted (at 4) (at 5) (at 6) (at 7)) refl;
+    })
 
 -- ---- sizes
 pub record Within (b : ℕ) (e : Four) : Type 0 where

@@ -3,7 +3,7 @@ use mathlib.Core.Path.{_≡_, refl, sym, ap, _∙_, subst}
 use mathlib.Core.List.{List, [], _∷_}
 use Prim.Native.Nat.{ℕ, _+_, _*_, _-_, _%_, _^_, _≤_, _<_}
 use native.Mathlib.Omega.{arith}
-use lib.Dec.{lit<}
+use lib.Dec.{lit<, lit≤}
 use lib.IntN.{ℤ, pos, _+ℤ_, negℤ}
 use lib.ListN.{getD}
 use Rattle.laws.proofs.Lists.{getD-tab}
@@ -15,8 +15,8 @@ use Rattle.ring.specs.Matrices.{cell}
 use Rattle.ring.proofs.Cells.{cell-at, cell-canonical}
 use Rattle.lanes.specs.Samplers.{ones, counts, short, shorts}
 use Rattle.lanes.proofs.Samplers.{ones-small, shorts-canonical}
-use Rattle.noise.specs.Lanes.{Lanes, noise}
-use Rattle.noise.proofs.Four.{Four, worth, worth-of, quoted, On, on-lanes}
+use Rattle.noise.specs.Lanes.{Lanes, noise, guaranteed}
+use Rattle.noise.proofs.Four.{Four, worth, worth-of, quoted, On, on-lanes, lanes-wider}
 use Rattle.noise.proofs.Products.{In, on-cong, in-noise}
 
 module _ (count : ℕ → ℕ) (s : ℕ) (small : (n : ℕ) → count n ≤ s) where
@@ -47,11 +47,13 @@ module _ (count : ℕ → ℕ) (s : ℕ) (small : (n : ℕ) → count n ≤ s) w
   on-short l i = record {
     worths =
         c-trans (worth-of (drawn l i) (between-leaves _ _) (between-leaves _ _) (between-leaves _ _) (between-leaves _ _))
-        (record { same = mod-ring P (lit< tt)
-            (count (getD l (i + 3) 0) ∷ count (getD l (i + 2) 0) ∷ count (getD l (i + 1) 0) ∷ count (getD l i 0)
-            ∷ count (getD l (i + 4 + 3) 0) ∷ count (getD l (i + 4 + 2) 0) ∷ count (getD l (i + 4 + 1) 0) ∷ count (getD l (i + 4) 0) ∷ [])
-            (quoted (at 0 ⊞ neg (at 4)) (at 1 ⊞ neg (at 5)) (at 2 ⊞ neg (at 6)) (at 3 ⊞ neg (at 7)))
-            (rem (quoted (at 0) (at 1) (at 2) (at 3) ⊞ neg (quoted (at 4) (at 5) (at 6) (at 7)))) refl });
+        (record {
+          same = mod-ring P (lit< tt)
+              (count (getD l (i + 3) 0) ∷ count (getD l (i + 2) 0) ∷ count (getD l (i + 1) 0) ∷ count (getD l i 0)
+              ∷ count (getD l (i + 4 + 3) 0) ∷ count (getD l (i + 4 + 2) 0) ∷ count (getD l (i + 4 + 1) 0) ∷ count (getD l (i + 4) 0) ∷ [])
+              (quoted (at 0 ⊞ neg (at 4)) (at 1 ⊞ neg (at 5)) (at 2 ⊞ neg (at 6)) (at 3 ⊞ neg (at 7)))
+              (rem (quoted (at 0) (at 1) (at 2) (at 3) ⊞ neg (quoted (at 4) (at 5) (at 6) (at 7)))) refl;
+        });
     within = record { s0 = between-sized _ _; s1 = between-sized _ _; s2 = between-sized _ _; s3 = between-sized _ _ };
   }
 
@@ -76,11 +78,11 @@ module _ (count : ℕ → ℕ) (s : ℕ) (small : (n : ℕ) → count n ≤ s) w
   unfolding noise
   short-noise n a b c d k h = on-lanes _ (in-noise s n (in-shorts n a) (in-shorts n b) (in-shorts n c) (in-shorts n d) .on k h)
 
--- document 01: all that the samplers guarantee is 196,608
-pub base-noise : (a b c d : List ℕ) (k : ℕ) → k < 64 → Lanes 196608 (getD (noise 4 (shorts ones 256 a) (shorts ones 256 b) (shorts ones 256 c) (shorts ones 256 d)) k 0)
-base-noise = short-noise ones 8 ones-small 4
+-- the vectors of a key and of a payload
+pub base-noise : (a b c d : List ℕ) (k : ℕ) → k < 64 → Lanes guaranteed (getD (noise 4 (shorts ones 256 a) (shorts ones 256 b) (shorts ones 256 c) (shorts ones 256 d)) k 0)
+base-noise a b c d k h = lanes-wider guaranteed (lit≤ tt) (short-noise ones 8 ones-small 4 a b c d k h)
 
--- with counts up to 2 it is 12,288, and so the noise is harmless
+-- with counts up to 2 no lane is beyond 12,288, which is within the limit
 pub light-noise : (count : ℕ → ℕ) → ((n : ℕ) → count n ≤ 2)
     → (a b c d : List ℕ) (k : ℕ) → k < 64 → Lanes 12288 (getD (noise 4 (shorts count 256 a) (shorts count 256 b) (shorts count 256 c) (shorts count 256 d)) k 0)
 light-noise count small = short-noise count 2 small 4
