@@ -279,7 +279,11 @@ fn four_bytes(l: &[u8], s: usize) -> u64
     requires { ⌜ s + 4 ≤ length (now l) ⌝ }
     ensures { λ r. ⌜ (r ≡ big-endian (now (l .entry)) s 4) × (r < 2 ^ 32) ⌝ }
 {
-    wide(l[s]) * 0x100_0000 + wide(l[s + 1]) * 0x1_0000 + wide(l[s + 2]) * 0x100 + wide(l[s + 3])
+    let b0 = wide(l[s]);
+    let b1 = wide(l[s + 1]);
+    let b2 = wide(l[s + 2]);
+    let b3 = wide(l[s + 3]);
+    b0 * 0x100_0000 + b1 * 0x1_0000 + b2 * 0x100 + b3
 }
 
 // Nine bytes from s on, big-endian, modulo p. The first stands at 2^64, which is 2^32 - 1 modulo p.
@@ -334,10 +338,11 @@ fn counted(table: &[u8; 256], l: &[u8], s: usize) -> u64
     requires { ⌜ (now table ≡ tab 256 ones) × (s + 4 ≤ length (now l)) ⌝ }
     ensures { λ r. ⌜ (r ≡ counts ones (now (l .entry)) s) × (r < P) ⌝ }
 {
-    set_bits(table, l[s]) * 0x1_0000_0000_0000
-        + set_bits(table, l[s + 1]) * 0x1_0000_0000
-        + set_bits(table, l[s + 2]) * 0x1_0000
-        + set_bits(table, l[s + 3])
+    let c0 = set_bits(table, l[s]);
+    let c1 = set_bits(table, l[s + 1]);
+    let c2 = set_bits(table, l[s + 2]);
+    let c3 = set_bits(table, l[s + 3]);
+    c0 * 0x1_0000_0000_0000 + c1 * 0x1_0000_0000 + c2 * 0x1_0000 + c3
 }
 
 fn short_at(table: &[u8; 256], l: &[u8], s: usize) -> u64
@@ -378,10 +383,11 @@ fn lift(b: u64) -> u64
     requires { ⌜ b < 256 ⌝ }
     ensures { λ r. ⌜ r ≡ lifted b 0 ⌝ }
 {
-    b % 2 * 0x8000
-        + b / 2 % 2 * 0x8000_0000
-        + b / 4 % 2 * 0x8000_0000_0000
-        + b / 8 % 2 * 0x8000_0000_0000_0000
+    let b0 = b % 2;
+    let b1 = b / 2 % 2;
+    let b2 = b / 4 % 2;
+    let b3 = b / 8 % 2;
+    b0 * 0x8000 + b1 * 0x8000_0000 + b2 * 0x8000_0000_0000 + b3 * 0x8000_0000_0000_0000
 }
 
 pub fn embed_msg(msg: &[u8], out: &mut [u64])

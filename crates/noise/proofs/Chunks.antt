@@ -1,4 +1,4 @@
--- One coefficient of an embedding with noise of lanes from -16381 to 16381: every chunk is judged to be its bit. A lane e is x - y, for naturals x and y.
+-- One coefficient of an embedding with noise of lanes of size up to the limit: every chunk is judged to be its bit. A lane e is x - y, for naturals x and y.
 -- The borrow that a lane takes from the next stays a variable, and so does k, which is 1 where the sum came below 0 and p was added. Assumes nothing.
 use mathlib.Core.Path.{_≡_, refl, sym, ap, _∙_}
 use mathlib.Core.Logic.{⊎-elim}
@@ -10,6 +10,7 @@ use Rattle.laws.proofs.Orders.{le-or-lt}
 use Rattle.field.specs.Field.{P}
 use Rattle.lanes.specs.Bits.{placed}
 use Rattle.lanes.specs.Messages.{judged, read, chunk}
+use Rattle.noise.specs.Lanes.{limit}
 use Rattle.lanes.proofs.Messages.{judged-low, judged-middle, judged-high}
 
 -- ---- one lane. From below came t - 2, and on goes `on` - 2; c is the chunk, C what is above it, X what the lanes above are worth
@@ -20,7 +21,7 @@ record Step (b c C X : ℕ) : Type 0 where
   on-high : on ≤ 2
   next : C + 2 ≡ X + on
 
-lane : (b c x y t C X : ℕ) → b ≤ 1 → c < 65536 → x ≤ y + 16381 → y ≤ x + 16381 → t ≤ 3 → c + y + 65536 * C + 2 ≡ 32768 * b + x + t + 65536 * X → Step b c C X
+lane : (b c x y t C X : ℕ) → b ≤ 1 → c < 65536 → x ≤ y + limit → y ≤ x + limit → t ≤ 3 → c + y + 65536 * C + 2 ≡ 32768 * b + x + t + 65536 * X → Step b c C X
 lane b c x y t C X hb hc up down ht e = ⊎-elim (λ h. kept h) (λ h. borrowed h) (le-or-lt X C)
   where
     kept : X ≤ C → Step b c C X
@@ -113,8 +114,8 @@ upper v h =
 -- a bit, and the noise of its lane
 pub record Noisy (b x y : ℕ) : Type 0 where
   pub bit-small : b ≤ 1
-  pub up : x ≤ y + 16381
-  pub down : y ≤ x + 16381
+  pub up : x ≤ y + limit
+  pub down : y ≤ x + limit
 
 module _ (v b0 b1 b2 b3 x0 x1 x2 x3 y0 y1 y2 y3 : ℕ) (l0 : Noisy b0 x0 y0) (l1 : Noisy b1 x1 y1) (l2 : Noisy b2 x2 y2) (l3 : Noisy b3 x3 y3) where
   -- the value and its lanes lie so near that p is added once at most

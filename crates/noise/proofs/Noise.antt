@@ -22,7 +22,7 @@ use Rattle.lanes.specs.Bits.{bit, placed}
 use Rattle.lanes.specs.Messages.{lifted, embed, judged, read, extracted, extract}
 use Rattle.lanes.proofs.Samplers.{bit-small}
 use Rattle.lanes.proofs.Messages.{embed-even, embed-odd, embed-canonical}
-use Rattle.noise.specs.Lanes.{Lanes, Harmless}
+use Rattle.noise.specs.Lanes.{Lanes, limit, Harmless}
 use Rattle.noise.proofs.Chunks.{Noisy, reads}
 use Rattle.noise.proofs.Four.{Four, worth, Within, On, four-of, lanes-on, on-lanes}
 
@@ -42,7 +42,7 @@ apart {b} {w} e o =
     gather : (a b c d a' b' c' d' : ℕ) → placed a b c d + placed a' b' c' d' ≡ placed (a + a') (b + b') (c + c') (d + d')
     gather a b c d a' b' c' d' = omega arith
 
-one-coefficient : (n h w : ℕ) → Lanes 16381 w → read ((lifted n h + w) % P) ≡ bit n h + 2 * bit n (h + 1) + 4 * bit n (h + 2) + 8 * bit n (h + 3)
+one-coefficient : (n h w : ℕ) → Lanes limit w → read ((lifted n h + w) % P) ≡ bit n h + 2 * bit n (h + 1) + 4 * bit n (h + 2) + 8 * bit n (h + 3)
 unfolding lifted
 one-coefficient n h w l =
     reads ((a + w) % P) (bit n h) (bit n (h + 1)) (bit n (h + 2)) (bit n (h + 3)) _ _ _ _ _ _ _ _
@@ -52,13 +52,13 @@ one-coefficient n h w l =
     e : Four
     e = four-of l
 
-    o : On 16381 e w
+    o : On limit e w
     o = lanes-on l
 
     a : ℕ
     a = placed (2 ^ 15 * bit n h) (2 ^ 15 * bit n (h + 1)) (2 ^ 15 * bit n (h + 2)) (2 ^ 15 * bit n (h + 3))
 
-    noisy : (j : ℕ) {z : ℤ} → Sized z 16381 → Noisy (bit n j) (over z) (under z)
+    noisy : (j : ℕ) {z : ℤ} → Sized z limit → Noisy (bit n j) (over z) (under z)
     noisy j {z} s = record { bit-small = bit-small n j; up = over-at-most z s; down = under-at-most z s }
 
     moved : Cong P ((a + w) % P + placed (under (e .l0)) (under (e .l1)) (under (e .l2)) (under (e .l3)))
@@ -75,7 +75,7 @@ unfolding plus
 plus-at a b k h = getD-tab 64 (λ k. (getD a k 0 + getD b k 0) % P) 0 k h
 
 -- small noise never turns a bit
-pub noise-theorem : Harmless 16381
+pub noise-theorem : Harmless limit
 unfolding extract
 noise-theorem m w bytes coefficients small = sym (is-tab 32 (λ i. extracted (plus 64 (embed m) w) i) 0 m (bytes .size) (λ i h. sym (at i h)))
   where
@@ -113,7 +113,7 @@ unfolding zeros plus
 extract-embed m bytes =
     ap extract (is-tab 64 _ 0 (embed m) (canonical .size) (λ k h.
     sym (ap (λ (x : ℕ). (getD (embed m) k 0 + x) % P) (getD-tab 64 (λ k. 0) 0 k h) ∙ ap (λ (x : ℕ). x % P) (add-zero (getD (embed m) k 0)) ∙ mod-eq-of-lt (canonical .each k))))
-    ∙ noise-theorem m zeros bytes (tab-below P 64 (λ k. 0) (lit< tt) (λ k h. lit< tt)) (λ k h. subst (λ (x : ℕ). Lanes 16381 x) (sym (getD-tab 64 (λ k. 0) 0 k h)) (no-lanes 16381))
+    ∙ noise-theorem m zeros bytes (tab-below P 64 (λ k. 0) (lit< tt) (λ k h. lit< tt)) (λ k h. subst (λ (x : ℕ). Lanes limit x) (sym (getD-tab 64 (λ k. 0) 0 k h)) (no-lanes limit))
   where
     canonical : Coefficients 64 (embed m)
     canonical = embed-canonical m
@@ -123,7 +123,7 @@ unfoldable pub turning : ℕ → ℕ
 turning zero = placed 1 65535 49152 65534
 turning (suc k) = 0
 
-pub turning-lanes : (k : ℕ) → Lanes 16382 (turning k)
+pub turning-lanes : (k : ℕ) → Lanes (limit + 1) (turning k)
 unfolding turning residue
 turning-lanes zero = record {
   e0 = pos 0;
@@ -136,13 +136,13 @@ turning-lanes zero = record {
   small3 = lit≤ tt;
   congruent = refl;
 }
-turning-lanes (suc k) = no-lanes 16382
+turning-lanes (suc k) = no-lanes (limit + 1)
 
 pub turned : extract (plus 64 (embed (replicate 32 0)) (tab 64 turning)) ≡ 4 ∷ replicate 31 0
 unfolding extract plus embed lifted read judged tab tabFrom turning
 turned = refl
 
-pub sharp : Harmless 16382 → ⊥
+pub sharp : Harmless (limit + 1) → ⊥
 sharp claim =
     let z : _≡_ {A = ℕ} 4 0 = ap (λ (l : List ℕ). getD l 0 0) (sym turned ∙ claim (replicate 32 0) (tab 64 turning) bytes canonical lanes) in
     omega arith
@@ -159,5 +159,5 @@ sharp claim =
     canonical : Coefficients 64 (tab 64 turning)
     canonical = tab-below P 64 turning (lit< tt) (λ k h. below k)
 
-    lanes : (k : ℕ) → k < 64 → Lanes 16382 (getD (tab 64 turning) k 0)
-    lanes k h = subst (λ (x : ℕ). Lanes 16382 x) (sym (getD-tab 64 turning 0 k h)) (turning-lanes k)
+    lanes : (k : ℕ) → k < 64 → Lanes (limit + 1) (getD (tab 64 turning) k 0)
+    lanes k h = subst (λ (x : ℕ). Lanes (limit + 1) x) (sym (getD-tab 64 turning 0 k h)) (turning-lanes k)

@@ -10,18 +10,18 @@ use Rattle.lanes.proofs.counted.Tie as tie
 returns : tie.Need-returns
 unfolding counts
 returns c =
-    let k₃ = c .before .before in
-    let k₂ = k₃ .before .before in
+    let k₂ = c .before .before in
     let k₁ = k₂ .before .before in
-    let e₁ = k₁ .set-bits .ensures in
-    let e₂ = k₂ .set-bits2 .ensures in
-    let e₃ = k₃ .set-bits3 .ensures in
-    let e₄ = c .set-bits4 .ensures in
-    ((λ i. e₁ .0 i * 2 ^ 48 + e₂ .0 i * 2 ^ 32 + e₃ .0 i * 2 ^ 16 + e₄ .0 i) ∙ (omega arith), omega arith)
+    let k₀ = k₁ .before .before in
+    let e₀ = k₀ .set-bits .ensures in
+    let e₁ = k₁ .set-bits2 .ensures in
+    let e₂ = k₂ .set-bits3 .ensures in
+    let e₃ = c .set-bits4 .ensures in
+    ((λ i. e₀ .0 i * 2 ^ 48 + e₁ .0 i * 2 ^ 32 + e₂ .0 i * 2 ^ 16 + e₃ .0 i) ∙ (omega arith), omega arith)
 
 pub counted-spec : {M : Type 1} → statement M
 counted-spec =
     tie.close (tie.spec (λ c. search needs) (λ c κs. search needs) (λ c. search needs) (λ c. search needs)
+    (λ c κs. search needs) (λ c. search needs) (λ c. search needs) (λ c κs. search needs) (λ c. search needs)
     (λ c. search needs) (λ c κs. search needs) (λ c. search needs) (λ c. search needs) (λ c. search needs)
-    (λ c. search needs) (λ c κs. search needs) (λ c. search needs) (λ c. search needs) (λ c. search needs)
-    (λ c. search needs) (λ c κs. search needs) (λ c. search needs) returns)
+    (λ c. search needs) (λ c. search needs) (λ c. search needs) returns)

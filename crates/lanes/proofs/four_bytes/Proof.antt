@@ -4,8 +4,8 @@ use Prim.Native.Nat.{ℕ, _-_}
 use mathlib.Core.Path.{ap}
 use lib.ListN.{getD}
 use borrow.Author.Needs.{needs}
-use Rattle.lanes.specs.Samplers.{big-endian}
 use native.Mathlib.Nat.{add-zero}
+use Rattle.lanes.specs.Samplers.{big-endian}
 use Rattle.lanes.proofs.four_bytes.Statement.{statement}
 use Rattle.lanes.proofs.four_bytes.Tie as tie
 
@@ -18,6 +18,6 @@ returns c =
 pub four-bytes-spec : {M : Type 1} → statement M
 four-bytes-spec =
     tie.close (tie.spec (λ c. search needs) (λ c κs. search needs) (λ c. search needs) (λ c. search needs)
+    (λ c κs. search needs) (λ c. search needs) (λ c. search needs) (λ c κs. search needs) (λ c. search needs)
     (λ c. search needs) (λ c κs. search needs) (λ c. search needs) (λ c. search needs) (λ c. search needs)
-    (λ c. search needs) (λ c κs. search needs) (λ c. search needs) (λ c. search needs) (λ c. search needs)
-    (λ c. search needs) (λ c κs. search needs) (λ c. search needs) returns)
+    (λ c. search needs) (λ c. search needs) (λ c. search needs) returns)
