@@ -1,0 +1,4 @@
+-- Demand 3 and demand 2 about keys and packets.
+pub mod Opening
+pub mod Products
+pub mod Sizes
