@@ -72,25 +72,27 @@ module _ (count : ℕ → ℕ) where
     abbrev pk : PublicKey
     pk = public-key count sk
 
-    bg-is : (i : ℕ) → i < 4 → cell (bg-of count pk m) i ≡ bg 4 4 g a b c d (embed m) i
-    unfolding public-key
-    bg-is i h = bg-cell count pk m i h
+    abbrev G-sk : List ℕ
+    G-sk = G (seed-of sk)
 
-    bga-m-is : bga-m-of count pk m ≡ bga-m 4 4 g a b c d (embed m)
+    bg-is : (i : ℕ) → i < 4 → cell (bg-of count G-sk m) i ≡ bg 4 4 g a b c d (embed m) i
+    bg-is i h = bg-cell count G-sk m i h
+
+    bga-m-is : bga-m-of count (pk .ga) m ≡ bga-m 4 4 g a b c d (embed m)
     unfolding public-key
     bga-m-is =
-        bga-m-row count pk m
-        ∙ ap (λ (l : List ℕ). plus 64 l (transform (embed m))) (dot-ext 4 _ _ _ _ (λ q l. refl) (λ q l. ga-cell count (seed-of sk) (key-of sk) q l))
+        bga-m-row count (pk .ga) m
+        ∙ ap (λ (l : List ℕ). plus 64 l (transform (embed m))) (dot-ext 4 _ _ _ _ (λ q l. refl) (λ q l. ga-cell count G-sk (key-of sk) q l))
 
     -- what `dec` extracts from it: what extraction reads from embed(payload) + b·c - d·a
     pub extracted-sealing : extracted count sk (sealing count pk m) ≡ extract (plus 64 (embed m) (noise-of count sk m))
-    unfolding extracted sealing noise-of noise
+    unfolding extracted sealing noise-of noise public-key
     extracted-sealing =
         ap (λ (l : List ℕ). extract (untransform l)) (ap₂ (minus 64)
-        (ap (take 64) (drop-at (bg-of count pk m) (bga-m-of count pk m) 256 (bg-canonical count pk m .size))
-        ∙ take-all 64 (bga-m-of count pk m) (omega (arith, bga-m-canonical count pk m .size)) ∙ bga-m-is)
-        (ap (λ (l : List ℕ). matrix 1 4 1 l (transforms 4 (first count (key-of sk)))) (take-at (bg-of count pk m) (bga-m-of count pk m) 256 (bg-canonical count pk m .size))
-        ∙ matrix-single 4 (bg-of count pk m) (transforms 4 (first count (key-of sk)))
+        (ap (take 64) (drop-at (bg-of count G-sk m) (bga-m-of count (pk .ga) m) 256 (bg-canonical count G-sk m .size))
+        ∙ take-all 64 (bga-m-of count (pk .ga) m) (omega (arith, bga-m-canonical count (pk .ga) m .size)) ∙ bga-m-is)
+        (ap (λ (l : List ℕ). matrix 1 4 1 l (transforms 4 (first count (key-of sk)))) (take-at (bg-of count G-sk m) (bga-m-of count (pk .ga) m) 256 (bg-canonical count G-sk m .size))
+        ∙ matrix-single 4 (bg-of count G-sk m) (transforms 4 (first count (key-of sk)))
         ∙ dot-ext 4 _ _ _ _ bg-is (λ q l. cell-transforms 4 (first count (key-of sk)) q l)))
         ∙ ap extract (opened 4 4 g a b c d (embed m) (λ i h. first-cell count (key-of sk) i) (λ i h. first-cell count m i) (λ i h. second-cell count (key-of sk) i)
         (λ i h. second-cell count m i) (embed-canonical m))

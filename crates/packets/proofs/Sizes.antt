@@ -59,22 +59,22 @@ module _ (count : ℕ → ℕ) where
   pub second-cell : (k : List ℕ) (i : ℕ) → Coefficients 64 (cell (second count k) i)
   second-cell k = cell-canonical (second count k) (second-canonical k .each)
 
-  pub ga-canonical : (seed k : List ℕ) → Coefficients 256 (ga-of count seed k)
+  pub ga-canonical : (g k : List ℕ) → Coefficients 256 (ga-of count g k)
   unfolding ga-of
-  ga-canonical seed k = plus-canonical 256 _ _
+  ga-canonical g k = plus-canonical 256 _ _
 
   pub public-canonical : (sk : List ℕ) → Coefficients 256 (public-key count sk .ga)
   unfolding public-key
   public-canonical sk = ga-canonical _ _
 
-  pub bg-canonical : (pk : PublicKey) (m : List ℕ) → Coefficients 256 (bg-of count pk m)
+  pub bg-canonical : (g m : List ℕ) → Coefficients 256 (bg-of count g m)
   unfolding bg-of
-  bg-canonical pk m = plus-canonical 256 _ _
+  bg-canonical g m = plus-canonical 256 _ _
 
-  pub bga-m-canonical : (pk : PublicKey) (m : List ℕ) → Coefficients 64 (bga-m-of count pk m)
+  pub bga-m-canonical : (ga m : List ℕ) → Coefficients 64 (bga-m-of count ga m)
   unfolding bga-m-of
-  bga-m-canonical pk m = plus-canonical 64 _ _
+  bga-m-canonical ga m = plus-canonical 64 _ _
 
   pub sealing-canonical : (pk : PublicKey) (m : List ℕ) → Coefficients 320 (sealing count pk m)
   unfolding sealing
-  sealing-canonical pk m = append-below P 256 64 _ _ (lit< tt) (bg-canonical pk m) (bga-m-canonical pk m)
+  sealing-canonical pk m = append-below P 256 64 _ _ (lit< tt) (bg-canonical (G (pk .seed)) m) (bga-m-canonical (pk .ga) m)

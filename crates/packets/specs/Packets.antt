@@ -61,28 +61,28 @@ module _ (count : ℕ → ℕ) where
   unfoldable pub second : List ℕ → List ℕ
   second k = shorts count 256 (part 2048 2048 (shake256 k 4096))
 
-  -- ga = G·a + c
+  -- ga = G·a + c, of a matrix and a key
   unfoldable pub ga-of : List ℕ → List ℕ → List ℕ
-  ga-of seed k = plus 256 (matrix 4 4 1 (G seed) (transforms 4 (first k))) (transforms 4 (second k))
+  ga-of g k = plus 256 (matrix 4 4 1 g (transforms 4 (first k))) (transforms 4 (second k))
 
   -- the public key of a secret key
   unfoldable pub public-key : List ℕ → PublicKey
-  public-key sk = record { seed = seed-of sk; ga = ga-of (seed-of sk) (key-of sk) }
+  public-key sk = record { seed = seed-of sk; ga = ga-of (G (seed-of sk)) (key-of sk) }
 
   unfoldable pub keygen : List ℕ → KeyPair
   keygen r = record { secret = secret-key r; public = public-key (secret-key r) }
 
-  -- bg = b·G + d
-  unfoldable pub bg-of : PublicKey → List ℕ → List ℕ
-  bg-of pk m = plus 256 (matrix 1 4 4 (transforms 4 (first m)) (G (pk .seed))) (transforms 4 (second m))
+  -- bg = b·G + d, of a matrix and a payload
+  unfoldable pub bg-of : List ℕ → List ℕ → List ℕ
+  bg-of g m = plus 256 (matrix 1 4 4 (transforms 4 (first m)) g) (transforms 4 (second m))
 
   -- bga_m = b·ga + embed(payload), with every vector and the embedding transformed first
-  unfoldable pub bga-m-of : PublicKey → List ℕ → List ℕ
-  bga-m-of pk m = plus 64 (matrix 1 4 1 (transforms 4 (first m)) (pk .ga)) (transform (embed m))
+  unfoldable pub bga-m-of : List ℕ → List ℕ → List ℕ
+  bga-m-of ga m = plus 64 (matrix 1 4 1 (transforms 4 (first m)) ga) (transform (embed m))
 
   -- the sealing of a payload under a public key: 320 coefficients
   unfoldable pub sealing : PublicKey → List ℕ → List ℕ
-  sealing pk m = bg-of pk m ++ bga-m-of pk m
+  sealing pk m = bg-of (G (pk .seed)) m ++ bga-m-of (pk .ga) m
 
   -- shared key = SHA3-256(payload)
   unfoldable pub enc : PublicKey → List ℕ → Packet

@@ -1,0 +1,3 @@
+-- Laws of sealing and opening.
+pub mod Parts
+pub mod Vectors
