@@ -1,10 +1,10 @@
 -- A list whose n elements from s on were replaced by those of r: what a call leaves that was lent a part. Assumes nothing.
-use mathlib.Core.Path.{_≡_, sym, ap, _∙_}
-use mathlib.Core.List.{List, _++_}
+use mathlib.Core.Path.{_≡_, sym, ap, ap₂, _∙_}
+use mathlib.Core.List.{List, [], _++_, append-nil}
 use Prim.Native.Nat.{ℕ, _+_, _-_, _≤_, _<_}
 use native.Mathlib.Omega.{arith}
-use lib.ListN.{length, getD, take, drop, length-append, length-drop, List·getD-append}
-use lib.Seq.{length-take-le, getD-take, getD-drop, getD-append-add}
+use lib.ListN.{length, getD, take, drop, length-append, length-drop, drop-of-length-le, List·getD-append}
+use lib.Seq.{length-take-le, getD-take, getD-drop, getD-append-add, take-at, drop-at}
 
 abbrev pub put : ℕ → ℕ → List ℕ → List ℕ → List ℕ
 put s n r v = take s v ++ (r ++ drop n (drop s v))
@@ -33,3 +33,9 @@ module _ (s n : ℕ) (r v : List ℕ) (size : length r ≡ n) (room : s + n ≤ 
       let f : s + (n + (x - s - n)) ≡ x = omega arith in
       ap (λ (k : ℕ). getD (put s n r v) k 0) e ∙ past (length r + (x - s - n)) ∙ getD-append-add r (drop n (drop s v)) (x - s - n) 0
       ∙ getD-drop n (drop s v) (x - s - n) 0 ∙ getD-drop s v (n + (x - s - n)) 0 ∙ ap (λ (k : ℕ). getD v k 0) f
+
+-- two parts, one behind the other, that fill a list
+pub put-two : (m n : ℕ) (q r v : List ℕ) → length q ≡ m → length r ≡ n → length v ≡ m + n → put m n r (put 0 m q v) ≡ q ++ r
+put-two m n q r v hq hr hv =
+    ap₂ (λ (s t : List ℕ). s ++ (r ++ drop n t)) (take-at q (drop m v) m hq) (drop-at q (drop m v) m hq)
+    ∙ ap (λ (t : List ℕ). q ++ (r ++ t)) (drop-of-length-le (drop m v) {i = n} (omega (arith, length-drop m v))) ∙ ap (λ (t : List ℕ). q ++ t) (append-nil r)

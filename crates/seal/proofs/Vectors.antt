@@ -98,3 +98,14 @@ transformed-more n i old new r h t e = record {
 pub transformed-all : (n : ℕ) (old new : List ℕ) → Transformed n n old new → new ≡ transforms n old
 unfolding transforms
 transformed-all n old new t = flat-cells n new (t .size) ∙ flat-ext n (cell new) (λ i. transform (cell old i)) (t .passed)
+
+-- ---- a list that is told to be canonical, as a call asks for it
+pub told-canonical : {n : ℕ} {l m : List ℕ} → l ≡ m → Coefficients n m → Coefficients n l
+told-canonical {n} e h = subst (λ (l : List ℕ). Coefficients n l) (sym e) h
+
+-- of its own length, and another of that length
+pub own-canonical : {n : ℕ} {l m : List ℕ} → l ≡ m → Coefficients n m → Coefficients (length l) l
+own-canonical {n} {l} e h = subst (λ (k : ℕ). Coefficients k l) (sym (told-canonical e h .size)) (told-canonical e h)
+
+pub other-canonical : {n : ℕ} {l m r : List ℕ} → l ≡ m → Coefficients n m → Coefficients n r → Coefficients (length l) r
+other-canonical {n} {l} {m} {r} e h q = subst (λ (k : ℕ). Coefficients k r) (sym (told-canonical e h .size)) q
