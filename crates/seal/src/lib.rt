@@ -9,7 +9,6 @@ ghost use Rattle.ring.specs.Matrices.{transforms, matrix};
 ghost use Rattle.lanes.specs.Samplers.{ones};
 ghost use Rattle.lanes.specs.Messages.{embed, extract};
 ghost use Rattle.hash.specs.Fips202.{shake256, sha3-256};
-ghost use Rattle.codec.specs.Layout.{words};
 ghost use Rattle.packets.specs.Packets.{G, first, second, ga-of, bg-of, bga-m-of, same, sealing, extracted, public-key, secret-key, keygen, enc, dec};
 ghost use Rattle.packets.specs.Layout.{public-bytes, public-of};
 ghost use Rattle.seal.specs.Opening.{opens, shared-key};
@@ -164,7 +163,7 @@ fn derive_key(key: &[u8], g: &[u64], a: &mut [u64], ga: &mut [u64])
 
 // The payload of a ciphertext, and whether its sealing under the secret key's own public key is that ciphertext. G and the
 // vectors are derived once.
-fn open(secret: &[u8], ciphertext: &[u64], payload: &mut [u8]) -> bool
+fn open_payload(secret: &[u8], ciphertext: &[u64], payload: &mut [u8]) -> bool
     requires { ⌜ (length (now secret) ≡ 64) × Coefficients 320 (now ciphertext) × (length (now payload) ≡ 32) ⌝ }
     ensures { λ r. ⌜ (now (payload .exit) ≡ extracted ones (now (secret .entry)) (now (ciphertext .entry)))
         × (r ≡ same 320 (sealing ones (public-key ones (now (secret .entry))) (extracted ones (now (secret .entry)) (now (ciphertext .entry)))) (now (ciphertext .entry))) ⌝ }
@@ -185,16 +184,28 @@ pub fn dec(secret: &[u8], ciphertext: &[u64], shared: &mut [u8]) -> bool
         × (now (shared .exit) ≡ shared-key (dec ones (now (secret .entry)) (now (ciphertext .entry))) (now (shared .entry))) ⌝ }
 {
     let mut payload = [0u8; 32];
-    let same = open(secret, ciphertext, &mut payload);
+    let same = open_payload(secret, ciphertext, &mut payload);
     if same {
         hash::sha3_256(&payload, shared);
     }
     same
 }
 
+// The sealing of a payload under the bytes of a public key.
+fn seal_under(public: &[u8], payload: &[u8], ciphertext: &mut [u64])
+    requires { ⌜ (length (now public) ≡ 2080) × Coefficients 256 (public-of (now public) .ga) × (length (now payload) ≡ 32) × (length (now ciphertext) ≡ 320) ⌝ }
+    ensures { λ _. ⌜ now (ciphertext .exit) ≡ sealing ones (public-of (now (public .entry))) (now (payload .entry)) ⌝ }
+{
+    let mut g = [0u64; 1024];
+    let mut ga = [0u64; 256];
+    derive_matrix(&public[0..32], &mut g);
+    codec::unpack(&public[32..2080], &mut ga);
+    seal_payload(&g, &ga, payload, ciphertext);
+}
+
 // The sealing of SHAKE256(randomness) under a public key, and its shared key.
 pub fn enc(public: &[u8], randomness: &[u8], shared: &mut [u8], ciphertext: &mut [u64])
-    requires { ⌜ (length (now public) ≡ 2080) × Coefficients 256 (words (drop 32 (now public))) × (length (now shared) ≡ 32) × (length (now ciphertext) ≡ 320) ⌝ }
+    requires { ⌜ (length (now public) ≡ 2080) × Coefficients 256 (public-of (now public) .ga) × (length (now shared) ≡ 32) × (length (now ciphertext) ≡ 320) ⌝ }
     ensures { λ _. ⌜ (now (shared .exit) ≡ enc ones (public-of (now (public .entry))) (now (randomness .entry)) .shared)
         × (now (ciphertext .exit) ≡ enc ones (public-of (now (public .entry))) (now (randomness .entry)) .ciphertext) ⌝ }
 {
@@ -204,14 +215,62 @@ pub fn enc(public: &[u8], randomness: &[u8], shared: &mut [u8], ciphertext: &mut
     hash::sha3_256(&payload, shared);
 }
 
-// The sealing of a payload under the bytes of a public key.
-fn seal_under(public: &[u8], payload: &[u8], ciphertext: &mut [u64])
-    requires { ⌜ (length (now public) ≡ 2080) × Coefficients 256 (words (drop 32 (now public))) × (length (now payload) ≡ 32) × (length (now ciphertext) ≡ 320) ⌝ }
-    ensures { λ _. ⌜ now (ciphertext .exit) ≡ sealing ones (public-of (now (public .entry))) (now (payload .entry)) ⌝ }
+fn copy(from: &[u8], to: &mut [u8])
+    requires { ⌜ length (now from) ≡ length (now to) ⌝ }
+    ensures { λ _. ⌜ now (to .exit) ≡ now (from .entry) ⌝ }
+{
+    for i in 0..to.len() {
+        to[i] = from[i];
+    }
+}
+
+// SHAKE256 of the randomness and then one byte.
+fn expand(randomness: &[u8], last: u8, out: &mut [u8])
+    requires { ⌜ length (now randomness) ≡ 32 ⌝ }
+    ensures { λ _. ⌜ now (out .exit) ≡ shake256 (now (randomness .entry) ++ (last ∷ [])) (length (now (out .entry))) ⌝ }
+{
+    let mut message = [0u8; 33];
+    copy(randomness, &mut message[0..32]);
+    message[32] = last;
+    hash::shake256(&message, out);
+}
+
+// The secret key of a randomness: key, then seed.
+fn derive_secret(randomness: &[u8], secret: &mut [u8])
+    requires { ⌜ (length (now randomness) ≡ 32) × (length (now secret) ≡ 64) ⌝ }
+    ensures { λ _. ⌜ now (secret .exit) ≡ secret-key (now (randomness .entry)) ⌝ }
+{
+    expand(randomness, 1, &mut secret[0..32]);
+    expand(randomness, 0, &mut secret[32..64]);
+}
+
+// ga of a secret key.
+fn derive_ga(secret: &[u8], ga: &mut [u64])
+    requires { ⌜ (length (now secret) ≡ 64) × (length (now ga) ≡ 256) ⌝ }
+    ensures { λ _. ⌜ now (ga .exit) ≡ public-key ones (now (secret .entry)) .ga ⌝ }
 {
     let mut g = [0u64; 1024];
+    let mut a = [0u64; 256];
+    derive_matrix(&secret[32..64], &mut g);
+    derive_key(&secret[0..32], &g, &mut a, ga);
+}
+
+// The bytes of a secret key's public key.
+fn put_public(secret: &[u8], public: &mut [u8])
+    requires { ⌜ (length (now secret) ≡ 64) × (length (now public) ≡ 2080) ⌝ }
+    ensures { λ _. ⌜ now (public .exit) ≡ public-bytes (public-key ones (now (secret .entry))) ⌝ }
+{
     let mut ga = [0u64; 256];
-    derive_matrix(&public[0..32], &mut g);
-    codec::unpack(&public[32..2080], &mut ga);
-    seal_payload(&g, &ga, payload, ciphertext);
+    derive_ga(secret, &mut ga);
+    copy(&secret[32..64], &mut public[0..32]);
+    codec::pack(&ga, &mut public[32..2080]);
+}
+
+// Makes a key pair of 32 random bytes.
+pub fn keygen(randomness: &[u8], secret: &mut [u8], public: &mut [u8])
+    requires { ⌜ (length (now randomness) ≡ 32) × (length (now secret) ≡ 64) × (length (now public) ≡ 2080) ⌝ }
+    ensures { λ _. ⌜ (now (secret .exit) ≡ keygen ones (now (randomness .entry)) .secret) × (now (public .exit) ≡ public-bytes (keygen ones (now (randomness .entry)) .public)) ⌝ }
+{
+    derive_secret(randomness, secret);
+    put_public(secret, public);
 }

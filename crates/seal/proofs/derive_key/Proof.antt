@@ -1,52 +1,27 @@
-use native.Mathlib.Omega.{arith}
-use Prim.Native.Nat.{ℕ, _+_, _*_, _-_, _≤_, _<_, _/_, _%_, _^_}
-use mathlib.Core.Path.{_≡_, refl, sym, _∙_, ap}
-use mathlib.Core.Logic.{⊎-elim}
-use lib.ListN.{length, getD, length-set}
+-- `derive_key` combines what it derived. Assumes nothing.
 use borrow.Author.Needs.{needs}
+use mathlib.Core.Path.{_∙_}
+use Rattle.ring.specs.Elements.{plus}
+use Rattle.ring.specs.Matrices.{matrix}
+use Rattle.ring.proofs.Cells.{transforms-canonical}
+use Rattle.packets.specs.Packets.{ga-of}
+use Rattle.seal.proofs.Vectors.{told-canonical}
 use Rattle.seal.proofs.derive_key.Statement.{statement}
 use Rattle.seal.proofs.derive_key.Tie as tie
-use Rattle.seal.proofs.derive_key.Reads as reads
-use Rattle.seal.proofs.derive_key.Lts as lts
-use Rattle.seal.proofs.combine.Reads as combine-reads
-use Rattle.seal.proofs.derive_vectors.Reads as derive-vectors-reads
 
--- src/lib.rt:161:28
-slice-aggregate-derive-vectors : tie.Need-slice-aggregate-derive-vectors
-slice-aggregate-derive-vectors c = search needs
-
--- src/lib.rt:161:5
-derive-vectors-requires : tie.Need-derive-vectors-requires
-derive-vectors-requires c κs = search needs
-
--- src/lib.rt:162:19
-slice-aggregate-combine : tie.Need-slice-aggregate-combine
-slice-aggregate-combine c = search needs
-
--- src/lib.rt:162:5
 combine-requires : tie.Need-combine-requires
-combine-requires c κs = ?
+combine-requires c κs =
+    let d = c .before .before .before .before .before .before .derive-vectors .ensures in
+    (c .before .before .before .before .before .before .before .before .before .before .before .before .before .pre .0, told-canonical (d .0) (transforms-canonical 4 _), told-canonical (d .1) (transforms-canonical 4 _), c .before .before .before .before .before .before .before .before .before .before .before .before .before .pre .2)
 
--- src/lib.rt:156:1
-same-length : tie.Need-same-length
-same-length c = search needs
-
--- src/lib.rt:156:1
-same-length-2 : tie.Need-same-length-2
-same-length-2 c = search needs
-
--- src/lib.rt:156:1
 returns : tie.Need-returns
-returns c = ?
+unfolding ga-of
+returns c =
+    let d = c .before .before .before .before .before .before .before .before .before .derive-vectors .ensures in
+    (d .0, c .before .before .combine .ensures ∙ (λ t. plus 256 (matrix 4 4 1 (c .before .before .before .before .before .before .before .before .before .before .before .before .before .before .before .before .args .g .now) (d .0 t)) (d .1 t)))
 
 pub derive-key-spec : {M : Type 1} → statement M
 derive-key-spec =
-    tie.close
-    (tie.spec
-    slice-aggregate-derive-vectors
-    derive-vectors-requires
-    slice-aggregate-combine
-    combine-requires
-    same-length
-    same-length-2
+    tie.close (tie.spec
+    (λ c. search needs) (λ c κs. search needs) (λ c. search needs) combine-requires (λ c. search needs) (λ c. search needs)
     returns)
