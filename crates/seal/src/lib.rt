@@ -224,10 +224,10 @@ fn copy(from: &[u8], to: &mut [u8])
     }
 }
 
-// SHAKE256 of the randomness and then one byte.
+// 32 bytes of SHAKE256 of the randomness and then one byte.
 fn expand(randomness: &[u8], last: u8, out: &mut [u8])
-    requires { ⌜ length (now randomness) ≡ 32 ⌝ }
-    ensures { λ _. ⌜ now (out .exit) ≡ shake256 (now (randomness .entry) ++ (last ∷ [])) (length (now (out .entry))) ⌝ }
+    requires { ⌜ (length (now randomness) ≡ 32) × (length (now out) ≡ 32) ⌝ }
+    ensures { λ _. ⌜ now (out .exit) ≡ shake256 (now (randomness .entry) ++ (last ∷ [])) 32 ⌝ }
 {
     let mut message = [0u8; 33];
     copy(randomness, &mut message[0..32]);

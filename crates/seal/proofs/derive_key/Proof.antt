@@ -22,6 +22,5 @@ returns c =
 
 pub derive-key-spec : {M : Type 1} → statement M
 derive-key-spec =
-    tie.close (tie.spec
-    (λ c. search needs) (λ c κs. search needs) (λ c. search needs) combine-requires (λ c. search needs) (λ c. search needs)
-    returns)
+    tie.close (tie.spec (λ c. search needs) (λ c κs. search needs) (λ c. search needs) combine-requires
+    (λ c. search needs) (λ c. search needs) returns)

@@ -10,7 +10,7 @@ use Rattle.ring.specs.Matrices.{matrix}
 use Rattle.ring.proofs.Cells.{transforms-canonical}
 use Rattle.lanes.specs.Messages.{extract}
 use Rattle.lanes.specs.Samplers.{ones}
-use Rattle.packets.specs.Packets.{key-of, seed-of, G, ga-of, bg-of, bga-m-of, public-key, sealing, extracted, same}
+use Rattle.packets.specs.Packets.{key-of, G, ga-of, bg-of, bga-m-of, public-key, sealing, extracted, same}
 use Rattle.packets.proofs.Sizes.{G-canonical, ga-canonical}
 use Rattle.seal.proofs.Vectors.{told-canonical}
 use Rattle.seal.proofs.open_payload.Statement.{statement}
@@ -49,8 +49,7 @@ returns c =
 
 pub open-payload-spec : {M : Type 1} → statement M
 open-payload-spec =
-    tie.close (tie.spec
-    (λ c. search needs) (λ c. search needs) (λ c. search needs) (λ c. search needs) (λ c κs. search needs) (λ c. search needs)
-    (λ c. search needs) (λ c. search needs) (λ c. search needs) (λ c. search needs) (λ c. search needs) derive-key-requires
-    (λ c. search needs) extract-payload-requires (λ c. search needs) (λ c. search needs) regenerates-requires (λ c. search needs)
-    returns)
+    tie.close (tie.spec (λ c. search needs) (λ c. search needs) (λ c. search needs) (λ c. search needs)
+    (λ c κs. search needs) (λ c. search needs) (λ c. search needs) (λ c. search needs) (λ c. search needs)
+    (λ c. search needs) (λ c. search needs) derive-key-requires (λ c. search needs) extract-payload-requires
+    (λ c. search needs) (λ c. search needs) regenerates-requires (λ c. search needs) returns)

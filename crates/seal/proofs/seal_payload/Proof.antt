@@ -1,10 +1,8 @@
 -- `seal_payload` fills both parts of the ciphertext. Assumes nothing.
 use borrow.Author.Needs.{needs}
-use native.Mathlib.Omega.{arith}
-use mathlib.Core.List.{List, _++_}
+use mathlib.Core.List.{_++_}
 use mathlib.Core.Path.{_≡_, ap, ap₂, _∙_}
-use Prim.Native.Nat.{ℕ}
-use lib.ListN.{length, take, drop}
+use lib.ListN.{length}
 use Rattle.ring.specs.Transform.{transform}
 use Rattle.ring.specs.Elements.{plus}
 use Rattle.ring.specs.Matrices.{matrix}
@@ -40,7 +38,7 @@ returns c =
 
 pub seal-payload-spec : {M : Type 1} → statement M
 seal-payload-spec =
-    tie.close (tie.spec
-    (λ c. search needs) (λ c. search needs) (λ c κs. search needs) (λ c. search needs) (λ c. search needs) (λ c. search needs)
-    (λ c. search needs) (λ c. search needs) put-bg-requires (λ c. search needs) (λ c. search needs) (λ c. search needs)
-    (λ c. search needs) put-bga-m-requires (λ c. search needs) returns)
+    tie.close (tie.spec (λ c. search needs) (λ c. search needs) (λ c κs. search needs) (λ c. search needs)
+    (λ c. search needs) (λ c. search needs) (λ c. search needs) (λ c. search needs) put-bg-requires
+    (λ c. search needs) (λ c. search needs) (λ c. search needs) (λ c. search needs) put-bga-m-requires
+    (λ c. search needs) returns)
