@@ -7,6 +7,7 @@ pub mod Congruence
 pub mod Wrapping
 pub mod Powers
 pub mod Pigeonhole
+pub mod Monomials
 pub mod ModularSolver
 pub mod Generators
 pub mod Rings

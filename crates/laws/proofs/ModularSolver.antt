@@ -9,35 +9,12 @@ use mathlib.Core.List.{List, [], _∷_}
 use Prim.Native.Nat.{ℕ, zero, suc, _+_, _*_, _-_, _%_, _<_}
 use native.Mathlib.Nat.{add-mul, zero-mul, zero-add, add-assoc, add-left-comm}
 use native.Mathlib.Omega.{P, patom, plit, padd, pmul, val, mono, nth, Sum, none, more, total, flat, flat-sound, arith}
-use lib.Dec.{T, ltb, eqb, eqb→eq}
+use lib.Dec.{T}
 use Rattle.laws.specs.Congruence.{Cong}
 use Rattle.laws.proofs.Congruence.{c-refl, c-trans, c-sym, c-add, c-mul, c-mod, c-eq, c-multiple, c-cancel, c-neg}
-use Rattle.laws.proofs.Tests.{both, both-left, both-right}
+use Rattle.laws.proofs.Monomials.{alike, alike-is, first}
 
 -- ---- a sum of monomials, sorted, with like ones collected; a monomial is the list of its variables
-abbrev alike : List ℕ → List ℕ → Bool
-alike [] [] = true
-alike [] (j ∷ n) = false
-alike (i ∷ m) [] = false
-alike (i ∷ m) (j ∷ n) = both (eqb i j) (alike m n)
-
-alike-is : (m n : List ℕ) → T (alike m n) → m ≡ n
-alike-is [] [] h = refl
-alike-is [] (j ∷ n) h = absurd h
-alike-is (i ∷ m) [] h = absurd h
-alike-is (i ∷ m) (j ∷ n) h =
-    λ k. eqb→eq i j (both-left (eqb i j) (alike m n) h) k ∷ alike-is m n (both-right (eqb i j) (alike m n) h) k
-
-abbrev less-or : Bool → Bool → Bool → Bool
-less-or true e r = true
-less-or false true r = r
-less-or false false r = false
-
-abbrev first : List ℕ → List ℕ → Bool
-first [] n = true
-first (i ∷ m) [] = false
-first (i ∷ m) (j ∷ n) = less-or (ltb i j) (eqb i j) (first m n)
-
 abbrev put : Bool → Bool → ℕ → List ℕ → ℕ → List ℕ → Sum → Sum → Sum
 put true l k m j n s r = more (k + j) n s
 put false true k m j n s r = more k m (more j n s)

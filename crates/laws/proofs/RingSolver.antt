@@ -6,10 +6,10 @@ use mathlib.Core.List.{List, [], _∷_}
 use Prim.Native.Nat.{ℕ, zero, suc, _+_, _*_, _-_}
 use native.Mathlib.Nat.{add-suc, add-zero as n-add-zero, mul-suc, mul-zero as n-mul-zero}
 use native.Mathlib.Omega.{arith}
-use lib.Dec.{ltb, eqb, eqb→eq, T}
+use lib.Dec.{ltb, T}
 use lib.ListN.{getD}
 use Rattle.laws.specs.Rings.{CRing}
-use Rattle.laws.proofs.Tests.{both, both-left, both-right}
+use Rattle.laws.proofs.Monomials.{alike, alike-is, first}
 use Rattle.laws.proofs.Rings.{ring, zero-add, add-left-comm, mul-left-comm, neg-add-cancel-left, neg-zero, mul-zero, zero-mul, one-mul, add-mul}
 
 pub data Ex : Type 0 where
@@ -26,32 +26,6 @@ infix 80 :-_
 pub data Normal : Type 0 where
   nil : Normal
   term : ℕ → ℕ → List ℕ → Normal → Normal
-
-abbrev eqm : List ℕ → List ℕ → Bool
-eqm [] [] = true
-eqm [] (y ∷ ys) = false
-eqm (x ∷ xs) [] = false
-eqm (x ∷ xs) (y ∷ ys) = both (eqb x y) (eqm xs ys)
-
-eqm-eq : (xs ys : List ℕ) → T (eqm xs ys) → xs ≡ ys
-eqm-eq [] [] t = refl
-eqm-eq [] (y ∷ ys) t = absurd t
-eqm-eq (x ∷ xs) [] t = absurd t
-eqm-eq (x ∷ xs) (y ∷ ys) t =
-    let a : x ≡ y = eqb→eq x y (both-left (eqb x y) (eqm xs ys) t) in
-    let b : xs ≡ ys = eqm-eq xs ys (both-right (eqb x y) (eqm xs ys) t) in
-    cc
-
-abbrev cond : Bool → Bool → Bool → Bool
-cond true a b = a
-cond false a b = b
-
--- an order of monomials; nothing is proved of it
-abbrev ltm : List ℕ → List ℕ → Bool
-ltm [] [] = false
-ltm [] (y ∷ ys) = true
-ltm (x ∷ xs) [] = false
-ltm (x ∷ xs) (y ∷ ys) = cond (eqb x y) (ltm xs ys) (ltb x y)
 
 abbrev ins-to : Bool → ℕ → ℕ → List ℕ → List ℕ → List ℕ
 ins-to true i x xs r = i ∷ x ∷ xs
@@ -77,7 +51,7 @@ choose false false p m mo p′ m′ mo′ P r = term p′ m′ mo′ r
 
 abbrev add-term : ℕ → ℕ → List ℕ → Normal → Normal
 add-term p m mo nil = term p m mo nil
-add-term p m mo (term p′ m′ mo′ P) = choose (eqm mo mo′) (ltm mo mo′) p m mo p′ m′ mo′ P (add-term p m mo P)
+add-term p m mo (term p′ m′ mo′ P) = choose (alike mo mo′) (first mo mo′) p m mo p′ m′ mo′ P (add-term p m mo P)
 
 abbrev mul-term : ℕ → ℕ → List ℕ → Normal → Normal
 mul-term p m mo nil = nil
@@ -226,7 +200,7 @@ module _ (R : CRing) where
   add-term-ev : (ρ : List A) (p m : ℕ) (mo : List ℕ) (P : Normal) → pev ρ (add-term p m mo P) ≡ co p m ⊗ mon ρ mo ⊕ pev ρ P
   unfolding pev
   add-term-ev ρ p m mo nil = refl
-  add-term-ev ρ p m mo (term p′ m′ mo′ P) = go (eqm mo mo′) (ltm mo mo′) (eqm-eq mo mo′) (add-term-ev ρ p m mo P)
+  add-term-ev ρ p m mo (term p′ m′ mo′ P) = go (alike mo mo′) (first mo mo′) (alike-is mo mo′) (add-term-ev ρ p m mo P)
     where
       go : (a b : Bool) → (T a → mo ≡ mo′) → pev ρ (add-term p m mo P) ≡ co p m ⊗ mon ρ mo ⊕ pev ρ P
           → pev ρ (choose a b p m mo p′ m′ mo′ P (add-term p m mo P)) ≡ co p m ⊗ mon ρ mo ⊕ (co p′ m′ ⊗ mon ρ mo′ ⊕ pev ρ P)

@@ -61,9 +61,6 @@ module _ (R : CRing) where
   pub neg-mul : (a b : A) → (⊖ a) ⊗ b ≡ ⊖ (a ⊗ b)
   neg-mul a b = mul-comm (⊖ a) b ∙ mul-neg b a ∙ ap (λ x. ⊖ x) (mul-comm b a)
 
-  pub eq-of-sub : (a b : A) → a ⊕ (⊖ b) ≡ 𝟘 → a ≡ b
-  eq-of-sub a b e = sym (neg-neg a) ∙ ap (λ x. ⊖ x) (neg-unique a (⊖ b) e) ∙ neg-neg b
-
   -- the record's own laws, as rules
   pub r-add-assoc : (a b c : A) → a ⊕ b ⊕ c ≡ a ⊕ (b ⊕ c)
   r-add-assoc = add-assoc

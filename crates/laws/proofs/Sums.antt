@@ -4,7 +4,6 @@ use mathlib.Core.List.{[], _∷_}
 use mathlib.Core.Logic.{_≢_}
 use Prim.Native.Nat.{ℕ, zero, suc, _+_, _<_}
 use native.Mathlib.Nat.{add-suc, add-zero, le-step, lt-suc-self, not-suc-le-zero}
-use native.Mathlib.Numerals.{add-one}
 use native.Mathlib.Decide.{decLt}
 use native.Mathlib.Omega.{arith}
 use Rattle.laws.specs.Rings.{CRing, pow, sum, poly}
@@ -143,8 +142,3 @@ pub total-ext : (n : ℕ) (f g : ℕ → ℕ) → ((i : ℕ) → i < n → f i �
 unfolding total
 total-ext zero f g h = refl
 total-ext (suc n) f g h = λ i. total-ext n f g (λ j l. h j (le-step l)) i + h n (lt-suc-self n) i
-
--- one more term, at the code's n + 1
-pub total-one : (n : ℕ) (f : ℕ → ℕ) → total (n + 1) f ≡ total n f + f n
-unfolding total
-total-one n f = ap (λ m. total m f) (add-one n)

@@ -4,7 +4,7 @@ use mathlib.Core.List.{List}
 use Prim.Native.Nat.{ℕ, _+_, _*_, _-_, _/_, _%_, _≤_, _<_}
 use native.Mathlib.Omega.{arith}
 use lib.ListN.{length, getD}
-use Rattle.laws.proofs.Lists.{length-tab, getD-tab, is-tab, tab-ext}
+use Rattle.laws.proofs.Lists.{getD-tab, is-tab, tab-ext}
 use Rattle.laws.proofs.Bounds.{tab-below}
 use Rattle.field.specs.Field.{P, Coefficients}
 use Rattle.ring.specs.Transform.{transform}
@@ -33,10 +33,6 @@ flat-at n f i k h q =
     let e : (i * 64 + k) / 64 ≡ i = omega arith in
     let o : (i * 64 + k) % 64 ≡ k = omega arith in
     getD-tab (n * 64) (λ x. getD (f (x / 64)) (x % 64) 0) 0 (i * 64 + k) s ∙ (λ j. getD (f (e j)) (o j) 0)
-
-pub flat-length : (n : ℕ) (f : ℕ → List ℕ) → length (flat n f) ≡ n * 64
-unfolding flat
-flat-length n f = length-tab (n * 64) (λ x. getD (f (x / 64)) (x % 64) 0)
 
 pub flat-ext : (n : ℕ) (f g : ℕ → List ℕ) → ((i : ℕ) → i < n → f i ≡ g i) → flat n f ≡ flat n g
 unfolding flat

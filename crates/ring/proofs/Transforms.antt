@@ -1,4 +1,4 @@
--- The transform and its inverse undo each other on 64 canonical numbers, and a polynomial is given by its 64 values. Assumes nothing.
+-- The transform and its inverse undo each other on 64 canonical numbers. Assumes nothing.
 use mathlib.Core.Path.{_≡_, sym, _∙_, ap}
 use mathlib.Core.List.{List}
 use Prim.Native.Nat.{ℕ, _+_, _*_, _-_, _^_, _%_, _<_}
@@ -9,11 +9,11 @@ use Rattle.laws.specs.Rings.{pow, sum, poly}
 use Rattle.laws.specs.Sums.{total}
 use Rattle.laws.proofs.Lists.{getD-tab}
 use Rattle.laws.proofs.Bounds.{tab-below}
-use Rattle.laws.proofs.Rings.{eq-of-sub, mul-zero, mul-left-comm}
+use Rattle.laws.proofs.Rings.{mul-zero, mul-left-comm}
 use Rattle.laws.proofs.Residues.{mk-mod, mk-mul, mk-val, mk-total, mk-pow}
-use Rattle.laws.proofs.Sums.{sum-ext, sum-scale, sum-scale-right, sum-swap, sum-single, pow-add, poly-ext, poly-add, poly-neg}
+use Rattle.laws.proofs.Sums.{sum-ext, sum-scale, sum-scale-right, sum-swap, sum-single, pow-add, poly-ext}
 use Rattle.laws.proofs.Halving.{dbl}
-use Rattle.laws.proofs.Interpolation.{vanish, interp, interp-value}
+use Rattle.laws.proofs.Interpolation.{interp, interp-value}
 use Rattle.field.specs.Field.{P, Coefficients}
 use Rattle.ring.specs.Transform.{psi, brv, value, point, transform, inv64, untransform}
 use Rattle.ring.proofs.Residue.{F, el, co, p-pos, same, remainders, value-below, value-is}
@@ -38,21 +38,6 @@ unfolding transform
 transform-value cs c n h =
     ap (λ m. el m) (getD-tab 64 (λ m. value (point m) cs) 0 n h) ∙ value-is (point n) cs
     ∙ (λ i. poly F (c .size i) (co cs) (el (sym (heap-leaf n h) i)))
-
-poly-sub : (n : ℕ) (c d : ℕ → F .A) (x : F .A) → poly F n c x ≡ poly F n d x → poly F n (λ m. F .add (c m) (F .neg (d m))) x ≡ F .𝟘
-poly-sub n c d x e =
-    poly-add F n c (λ m. F .neg (d m)) x ∙ (λ i. F .add (e i) (poly-neg F n d x i)) ∙ F .add-neg (poly F n d x)
-
--- a polynomial is given by its 64 values
-pub value-inj : (c d : ℕ → F .A) → ((r : ℕ) → r < 64 → poly F 64 c (W (64 + r)) ≡ poly F 64 d (W (64 + r))) → (j : ℕ) → j < 64 → c j ≡ d j
-unfolding dbl
-value-inj c d e j l =
-    eq-of-sub F (c j) (d j)
-    (vanish F 64 W U roots half two-halves 6 1 (omega arith) (omega arith) (λ m. F .add (c m) (F .neg (d m))) (λ r h. poly-sub 64 c d (W (64 + r)) (e r h)) j l)
-
-pub transform-inj : (a b : List ℕ) → Coefficients 64 a → Coefficients 64 b → transform a ≡ transform b → a ≡ b
-transform-inj a b ca cb e =
-    same 64 a b ca cb (value-inj (co a) (co b) (λ r h. sym (transform-value a ca r h) ∙ ap (λ l. co l r) e ∙ transform-value b cb r h))
 
 untransform-is : (vs : List ℕ) (j : ℕ) → j < 64
     → co (untransform vs) j ≡ F .mul (el inv64) (sum F 64 (λ n. F .mul (co vs n) (pow F (el (point n)) (128 - j))))
@@ -92,6 +77,9 @@ untransform-transform cs c =
     ap (λ w. F .mul w (pow F (el (point n)) (128 - j))) (transform-value cs c n l ∙ ap (λ m. poly F 64 (co cs) (el m)) (heap-leaf n l)))
     ∙ dual (co cs) j h)
     ∙ mul-left-comm F (el inv64) (co cs j) (el 64) ∙ ap (λ w. F .mul (co cs j) w) sixty-fourth ∙ F .mul-one (co cs j))
+
+pub transform-inj : (a b : List ℕ) → Coefficients 64 a → Coefficients 64 b → transform a ≡ transform b → a ≡ b
+transform-inj a b ca cb e = sym (untransform-transform a ca) ∙ ap untransform e ∙ untransform-transform b cb
 
 -- the list whose values are vs, and nothing else, is untransform vs
 pub untransform-only : (cs vs : List ℕ) → Coefficients 64 cs → Coefficients 64 vs
