@@ -31,7 +31,7 @@ add-mod-p-requires : tie.Need-add-mod-p-requires Inv-loop μ-loop
 add-mod-p-requires c κs = (fresh (c .before .before .before), c .scaled .ensures .1)
 
 sub-mod-p-requires : tie.Need-sub-mod-p-requires Inv-loop μ-loop
-sub-mod-p-requires c κs = (fresh (c .before .before .before .before), omega (arith, c .before .scaled .ensures .1))
+sub-mod-p-requires c κs = let u = fresh (c .before .before .before .before) in let v = c .before .scaled .ensures .1 in (omega arith, omega arith)
 
 loop-again : tie.Need-loop-again Inv-loop μ-loop
 loop-again c =
