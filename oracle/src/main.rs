@@ -4,6 +4,7 @@ mod field;
 mod line;
 mod operation;
 mod random;
+mod ring;
 
 use std::io::{self, BufRead, BufWriter, Write};
 use std::process::ExitCode;
@@ -11,7 +12,7 @@ use std::process::ExitCode;
 use operation::Operation;
 
 /// A layer's name and its operations. A new layer is a new row.
-const LAYERS: &[(&str, &[Operation])] = &[("field", field::OPERATIONS)];
+const LAYERS: &[(&str, &[Operation])] = &[("field", field::OPERATIONS), ("ring", ring::OPERATIONS)];
 
 const USAGE: &str = "usage: oracle questions LAYER COUNT SEED\n       oracle answers";
 

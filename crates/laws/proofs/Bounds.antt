@@ -2,11 +2,13 @@
 use mathlib.Core.Path.{_≡_, sym, _∙_, subst}
 use mathlib.Core.List.{List}
 use mathlib.Core.Logic.{⊎-elim}
-use Prim.Native.Nat.{ℕ, _≤_, _<_}
+use Prim.Native.Nat.{ℕ, _+_, _≤_, _<_}
 use native.Mathlib.Nat.{ℕ-set}
 use native.Mathlib.Bridge.{le-prop}
+use native.Mathlib.Decide.{ℕ-discrete}
 use native.Mathlib.Omega.{arith}
-use lib.ListN.{length, getD, List·getD-eq-default}
+use lib.ListN.{length, getD, set, List·getD-eq-default}
+use lib.Seq.{getD-set-same, getD-set-other}
 use Rattle.laws.specs.Lists.{tab, Below}
 use Rattle.laws.proofs.Orders.{le-or-lt}
 use Rattle.laws.proofs.Lists.{length-tab, getD-tab}
@@ -41,3 +43,18 @@ mapped-below {b} {n} {i} {g} {old} {new} h l m = record {
 -- of a list that is known to be another
 pub below-as : {b n : ℕ} {k l : List ℕ} → k ≡ l → Below b n l → Below b n k
 below-as {b} {n} e h = subst (λ (x : List ℕ). Below b n x) (sym e) h
+
+-- n numbers that were stored one by one
+pub is-below : {b n : ℕ} {l : List ℕ} → 0 < b → length l ≡ n → ((j : ℕ) → j < n → getD l j 0 < b) → Below b n l
+is-below {b} {n} {l} pos e h = record {
+  size = e;
+  each = λ j. ⊎-elim (λ q. subst (λ (x : ℕ). x < b) (sym (List·getD-eq-default l 0 (let g : length l ≤ j = omega arith in g))) pos) (h j) (le-or-lt n j);
+}
+
+-- one more stored
+pub stored-below : {b : ℕ} (l : List ℕ) (i v : ℕ) → i < length l → v < b → ((j : ℕ) → j < i → getD l j 0 < b) → (j : ℕ) → j < i + 1 → getD (set l i v) j 0 < b
+stored-below {b} l i v h g p j q = at (ℕ-discrete j i)
+  where
+    at : Dec (j ≡ i) → getD (set l i v) j 0 < b
+    at (yes e) = subst (λ (x : ℕ). getD (set l i v) x 0 < b) (sym e) (subst (λ (x : ℕ). x < b) (sym (getD-set-same l i v 0 h)) g)
+    at (no e) = subst (λ (x : ℕ). x < b) (sym (getD-set-other l i j v 0 e)) (p j (omega arith))

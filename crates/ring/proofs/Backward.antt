@@ -3,18 +3,18 @@
 use mathlib.Core.Path.{_≡_, refl, sym, _∙_, ap, subst}
 use mathlib.Core.List.{List}
 use Prim.Native.Nat.{ℕ, _+_, _*_, _-_, _%_, _/_, _≤_, _<_}
-use native.Mathlib.Nat.{mod-lt, mul-le-mul-right, mul-le-mul-left}
+use native.Mathlib.Nat.{mod-lt}
 use native.Mathlib.Omega.{arith}
 use native.Mathlib.Decide.{decLt}
-use lib.ListN.{length, getD}
+use lib.ListN.{getD}
 use Rattle.laws.specs.Lists.{tab}
-use Rattle.laws.specs.Rings.{CRing, pow, poly}
+use Rattle.laws.specs.Rings.{pow, poly}
 use Rattle.laws.proofs.Lists.{getD-tab}
 use Rattle.laws.proofs.Bounds.{tab-below}
-use Rattle.laws.proofs.Rings.{add-mul, mul-left-comm}
+use Rattle.laws.proofs.Rings.{add-mul}
 use Rattle.laws.proofs.Sums.{poly-ext, poly-one, poly-scale}
 use Rattle.laws.proofs.Residues.{mk-mod, mk-add, mk-mul, mk-sub}
-use Rattle.laws.proofs.Halving.{dbl, leaf-pow, bwd-left, bwd-right, Roots}
+use Rattle.laws.proofs.Halving.{dbl, leaf-pow, bwd-left, bwd-right}
 use Rattle.field.specs.Field.{P, Coefficients}
 use Rattle.ring.specs.Transform.{zeta-inv, inv64, untransform}
 use Rattle.ring.specs.Stages.{sum-back, difference-back, stage-at, backward, unscaled, scaled}

@@ -2,7 +2,7 @@
 use mathlib.Core.Path.{_≡_, refl, sym, _∙_, ap, subst}
 use mathlib.Core.Bool.{Bool, true, false}
 use mathlib.Core.List.{List}
-use mathlib.Core.Logic.{_⊎_, inl, inr, ⊎-elim}
+use mathlib.Core.Logic.{_⊎_, ⊎-elim}
 use Prim.Native.Nat.{ℕ, _+_, _*_, _-_, _/_, _%_, _≤_, _<_}
 use native.Mathlib.Nat.{mul-le-mul-right}
 use native.Mathlib.Omega.{arith}
@@ -14,8 +14,7 @@ use lib.ListN.{length, getD, set, length-set}
 use lib.Seq.{getD-set-same, getD-set-other}
 use Rattle.laws.specs.Lists.{tab}
 use Rattle.laws.proofs.Orders.{le-or-lt}
-use Rattle.laws.proofs.Lists.{getD-tab}
-use Rattle.laws.proofs.Updates.{Filled, Mapped, mapped-none, mapped-all}
+use Rattle.laws.proofs.Updates.{Filled, mapped-none, mapped-all}
 use Rattle.ring.specs.Stages.{Butterflied, stage-at}
 
 module _ (f g : ℕ → ℕ → ℕ) (s t : ℕ) where

@@ -7,7 +7,6 @@ use native.Mathlib.Decide.{ℕ-discrete}
 use native.Mathlib.Omega.{arith}
 use lib.ListN.{length, getD, set, length-set}
 use lib.Seq.{getD-set-same, getD-set-other}
-use Rattle.laws.specs.Lists.{tab}
 use Rattle.laws.specs.Sums.{total}
 use Rattle.laws.proofs.Lists.{getD-tab, is-tab}
 use Rattle.laws.proofs.ModularSolver.{mod-ring, at, _⊞_, rem}

@@ -1,24 +1,22 @@
 -- The six stages forward are the transform: each stage halves the blocks and keeps the values. Assumes nothing.
 use mathlib.Core.Path.{_≡_, refl, sym, _∙_, ap, subst}
 use mathlib.Core.List.{List}
-use Prim.Native.Nat.{ℕ, _+_, _*_, _-_, _%_, _/_, _≤_, _<_}
-use native.Mathlib.Nat.{mod-lt, mod-mod, mul-le-mul-right}
+use Prim.Native.Nat.{ℕ, _+_, _*_, _-_, _%_, _/_, _<_}
+use native.Mathlib.Nat.{mod-lt}
 use native.Mathlib.Omega.{arith}
 use native.Mathlib.Decide.{ℕ-discrete}
-use lib.Dec.{lit<}
-use lib.ListN.{length, getD}
-use Rattle.laws.specs.Lists.{tab}
-use Rattle.laws.specs.Rings.{CRing, pow, poly}
+use lib.ListN.{getD}
+use Rattle.laws.specs.Rings.{pow, poly}
 use Rattle.laws.proofs.Lists.{getD-tab}
 use Rattle.laws.proofs.Bounds.{tab-below}
 use Rattle.laws.proofs.Sums.{pow-add, pow-one, poly-ext, poly-one}
 use Rattle.laws.proofs.Residues.{mk-mod, mk-add, mk-mul, mk-sub}
-use Rattle.laws.proofs.Halving.{fwd-left, fwd-right, Roots, neg-sq}
+use Rattle.laws.proofs.Halving.{fwd-left, fwd-right, neg-sq}
 use Rattle.field.specs.Field.{P, Coefficients}
-use Rattle.ring.specs.Transform.{psi, brv, zeta, transform}
+use Rattle.ring.specs.Transform.{zeta, transform}
 use Rattle.ring.specs.Stages.{sum-of, difference-of, stage-at, forward}
 use Rattle.ring.proofs.Residue.{F, el, co, p-pos, same}
-use Rattle.ring.proofs.Roots.{heap, W, roots, heap-even, place-64}
+use Rattle.ring.proofs.Roots.{W, roots, heap-even}
 use Rattle.ring.proofs.Transforms.{transform-canonical, transform-value}
 use Rattle.ring.proofs.Blocks.{rule-low, rule-high, stage-below, block-fits, entry-fits}
 

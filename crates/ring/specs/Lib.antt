@@ -2,5 +2,4 @@
 pub mod Transform
 pub mod Elements
 pub mod Matrices
-pub mod Points
 pub mod Stages

@@ -1,14 +1,14 @@
 -- The steps of the two transforms as lattice.rs takes them: a stage has m blocks of t + t numbers, a block t butterflies. What they come to is
 -- `transform` and `untransform` (proofs/Forward and proofs/Backward). Assumes nothing.
 use mathlib.Core.Path.{_≡_}
-use mathlib.Core.Bool.{Bool, true, false}
+use mathlib.Core.Bool.{true, false}
 use mathlib.Core.List.{List}
 use Prim.Native.Nat.{ℕ, _+_, _*_, _-_, _/_, _%_, _≤_, _<_}
 use lib.Dec.{ltb}
 use lib.ListN.{length, getD}
 use Rattle.laws.specs.Lists.{tab}
 use Rattle.field.specs.Field.{P}
-use Rattle.ring.specs.Transform.{zeta, zeta-inv, inv64}
+use Rattle.ring.specs.Transform.{zeta, zeta-inv}
 
 -- a butterfly's two new numbers, from its zeta z and its old numbers u and w: forward
 abbrev pub sum-of : ℕ → ℕ → ℕ → ℕ

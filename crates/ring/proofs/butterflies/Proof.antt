@@ -3,7 +3,7 @@ use borrow.Author.Needs.{needs}
 use native.Mathlib.Omega.{arith}
 use Prim.Native.Nat.{ℕ, _+_, _-_, _≤_, _<_, _%_}
 use mathlib.Core.Path.{_≡_, sym, _∙_, ap, subst}
-use lib.ListN.{length, getD, length-set}
+use lib.ListN.{getD, length-set}
 use Rattle.field.specs.Field.{P}
 use Rattle.field.specs.Element.{num}
 use Rattle.ring.specs.Stages.{sum-of, difference-of, Butterflied}
@@ -31,7 +31,7 @@ add-mod-p-requires : tie.Need-add-mod-p-requires Inv-loop μ-loop
 add-mod-p-requires c κs = (fresh (c .before .before .before), c .scaled .ensures .1)
 
 sub-mod-p-requires : tie.Need-sub-mod-p-requires Inv-loop μ-loop
-sub-mod-p-requires c κs = (fresh (c .before .before .before .before), omega (arith, c .before .scaled .ensures .1))
+sub-mod-p-requires c κs = let u = fresh (c .before .before .before .before) in let v = c .before .scaled .ensures .1 in (omega arith, omega arith)
 
 loop-again : tie.Need-loop-again Inv-loop μ-loop
 loop-again c =

@@ -1,5 +1,5 @@
 -- `combined` adds four products up. Assumes nothing.
-use Prim.Native.Nat.{_+_, _-_, _%_}
+use Prim.Native.Nat.{_+_, _%_}
 use mathlib.Core.Path.{_∙_}
 use borrow.Author.Needs.{needs}
 use Rattle.field.specs.Field.{P}

@@ -1,6 +1,5 @@
 -- `coset_intt_noswap_64` is the inverse transform. Assumes nothing.
-use Prim.Native.Nat.{_-_}
-use mathlib.Core.Path.{_∙_, ap}
+use mathlib.Core.Path.{_∙_}
 use borrow.Author.Needs.{needs}
 use Rattle.ring.specs.Stages.{scaled}
 use Rattle.ring.proofs.Backward.{backward-untransform}

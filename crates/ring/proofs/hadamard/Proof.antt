@@ -1,5 +1,4 @@
 -- `hadamard` is `hadamard_assign` on a copy. Assumes nothing.
-use Prim.Native.Nat.{_-_}
 use mathlib.Core.Path.{_∙_}
 use borrow.Author.Needs.{needs}
 use Rattle.laws.proofs.Bounds.{below-as}

@@ -1,5 +1,4 @@
 -- `multiply` is the product in the ring, taken through the transforms. Assumes nothing.
-use Prim.Native.Nat.{_-_}
 use mathlib.Core.Path.{_∙_, ap}
 use borrow.Author.Needs.{needs}
 use Rattle.laws.proofs.Bounds.{below-as}

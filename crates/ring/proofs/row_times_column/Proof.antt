@@ -1,6 +1,5 @@
 -- `row_times_column` is the matrix product of its shape. Assumes nothing.
-use Prim.Native.Nat.{_-_}
-use mathlib.Core.Path.{sym, _∙_, ap}
+use mathlib.Core.Path.{sym, _∙_}
 use borrow.Author.Needs.{needs}
 use Rattle.ring.proofs.Matrices.{matrix-row-flat}
 use Rattle.ring.proofs.row_times_column.Statement.{statement}

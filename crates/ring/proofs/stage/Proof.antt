@@ -2,7 +2,7 @@
 use borrow.Author.Needs.{needs}
 use native.Mathlib.Omega.{arith}
 use Prim.Native.Nat.{_+_, _*_, _-_, _≤_, _<_}
-use mathlib.Core.Path.{_≡_, _∙_, ap}
+use mathlib.Core.Path.{_≡_, _∙_}
 use Rattle.laws.proofs.Updates.{Filled}
 use Rattle.laws.proofs.Bounds.{mapped-below}
 use Rattle.field.specs.Element.{num}

@@ -1,5 +1,4 @@
 -- `sub` is `sub_assign` on a copy. Assumes nothing.
-use Prim.Native.Nat.{_-_}
 use mathlib.Core.Path.{refl, sym, _∙_}
 use borrow.Author.Needs.{needs}
 use Rattle.laws.proofs.Bounds.{below-as}

@@ -27,7 +27,9 @@ sub-mod-p-requires : tie.Need-sub-mod-p-requires Inv-loop μ-loop
 sub-mod-p-requires c κs =
     let l = c .before .before .before .loop in
     let start = c .before .before .before .before .before .before in
-    (subst (λ (n : ℕ). n < P) (sym (l .inv .2 .rest (l .i) (omega arith))) (start .pre .0 .each (l .i)), omega (arith, start .pre .1 .each (l .i)))
+    let a : getD (l .lhs) (l .i) 0 < P = subst (λ (n : ℕ). n < P) (sym (l .inv .2 .rest (l .i) (omega arith))) (start .pre .0 .each (l .i)) in
+    let b = start .pre .1 .each (l .i) in
+    (omega arith, omega arith)
 
 loop-again : tie.Need-loop-again Inv-loop μ-loop
 loop-again c =

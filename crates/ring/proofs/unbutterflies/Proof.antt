@@ -3,7 +3,7 @@ use borrow.Author.Needs.{needs}
 use native.Mathlib.Omega.{arith}
 use Prim.Native.Nat.{ℕ, _+_, _*_, _-_, _≤_, _<_, _%_}
 use mathlib.Core.Path.{_≡_, sym, _∙_, ap, subst}
-use lib.ListN.{length, getD, length-set}
+use lib.ListN.{getD, length-set}
 use Rattle.field.specs.Field.{P}
 use Rattle.field.specs.Element.{num}
 use Rattle.ring.specs.Stages.{sum-back, difference-back, Butterflied}

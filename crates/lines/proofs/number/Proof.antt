@@ -3,8 +3,8 @@ use borrow.Author.Needs.{needs}
 use Prim.Native.Nat.{_-_, _≤_}
 use mathlib.Core.Path.{_≡_}
 use lib.ListN.{length}
-use Rattle.field_answers.proofs.number.Statement.{statement}
-use Rattle.field_answers.proofs.number.Tie as tie
+use Rattle.lines.proofs.number.Statement.{statement}
+use Rattle.lines.proofs.number.Tie as tie
 
 abbrev Inv-loop : tie.InvT-loop
 Inv-loop digits x₀ i₀ i-end x i = (i ≤ i-end) × (i-end ≡ length digits)

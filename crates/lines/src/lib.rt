@@ -1,0 +1,98 @@
+// The line format of oracle/README.md, in which the programs that replay the Rust's answers are asked and answer:
+// numbers as 16 hexadecimal digits in lower case.
+use field::BFieldElement;
+use libc::STDIN_FILENO;
+use libc::STDOUT_FILENO;
+ghost use Prim.Native.Nat.{_<_};
+ghost use lib.ListN.{length};
+ghost use Rattle.field.specs.Field.{P, Coefficients};
+
+fn wide(byte: u8) -> u64
+    ensures { λ r. ⌜ r < 256 ⌝ }
+{
+    byte as u64
+}
+
+// What a hexadecimal digit in lower case stands for; any other byte counts as 0.
+fn digit(byte: u8) -> u64
+    ensures { λ r. ⌜ r < 16 ⌝ }
+{
+    let b = wide(byte);
+    if b < 48 {
+        0
+    } else if b < 58 {
+        b - 48
+    } else if b < 97 {
+        0
+    } else if b < 103 {
+        b - 87
+    } else {
+        0
+    }
+}
+
+// The number that 16 digits stand for.
+pub fn number(digits: &[u8]) -> u64 {
+    let mut x: u64 = 0;
+    for i in 0..digits.len() {
+        x = x % 0x1000_0000_0000_0000 * 16 + digit(digits[i]);
+    }
+    x
+}
+
+// The next operand of a question, a space and 16 digits, as a canonical number.
+fn read_number() -> u64
+    ensures { λ r. ⌜ r < P ⌝ }
+{
+    let mut part = [0u8; 17];
+    io::read_full(STDIN_FILENO, &mut part);
+    number(&part[1..17]) % BFieldElement::P
+}
+
+// As many operands as out has room for.
+pub fn read_numbers(out: &mut [u64])
+    ensures { λ r. ⌜ Coefficients (length (now (out .entry))) (now (out .exit)) ⌝ }
+{
+    for i in 0..out.len() {
+        out[i] = read_number();
+    }
+}
+
+// The question's end; false where the input ends before it.
+pub fn read_end() -> bool {
+    let mut end = [0u8; 1];
+    io::read_full(STDIN_FILENO, &mut end) == 1
+}
+
+// Four bytes as one number, the first the highest.
+pub fn word(bytes: &[u8; 4]) -> u64 {
+    wide(bytes[0]) * 0x100_0000
+        + wide(bytes[1]) * 0x1_0000
+        + wide(bytes[2]) * 0x100
+        + wide(bytes[3])
+}
+
+fn space() {
+    io::write_all(STDOUT_FILENO, b" ");
+}
+
+fn end_line() {
+    io::write_all(STDOUT_FILENO, b"\n");
+}
+
+// One answer.
+pub fn tell(x: u64) {
+    io::print_hex(STDOUT_FILENO, x, 16);
+    end_line();
+}
+
+// One answer of several numbers, a space between two.
+pub fn tell_all(a: &[u64]) {
+    for i in 0..a.len() {
+        if 0 < i {
+            space();
+        }
+        io::print_hex(STDOUT_FILENO, a[i], 16);
+    }
+    end_line();
+}
