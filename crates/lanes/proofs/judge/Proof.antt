@@ -8,7 +8,7 @@ use Rattle.lanes.proofs.judge.Statement.{statement}
 use Rattle.lanes.proofs.judge.Tie as tie
 
 returns : tie.Need-returns
-returns c = (sym (judged-low _ (c .if1 .taken)), search needs)
+returns c = (sym (judged-low _ (omega arith)), search needs)
 
 returns-2 : tie.Need-returns-2
 returns-2 c = (sym (judged-high _ (omega arith)), search needs)
