@@ -1,6 +1,5 @@
 -- `judge` is the rule of the two thresholds. Assumes nothing.
 use native.Mathlib.Omega.{arith}
-use Prim.Native.Nat.{_-_}
 use mathlib.Core.Path.{sym}
 use borrow.Author.Needs.{needs}
 use Rattle.lanes.proofs.Messages.{judged-low, judged-middle, judged-high}
