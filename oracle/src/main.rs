@@ -1,6 +1,7 @@
 //! Asks questions and answers them by the published Rust, so that another program's answers can be compared.
 
 mod field;
+mod lanes;
 mod line;
 mod operation;
 mod random;
@@ -12,7 +13,11 @@ use std::process::ExitCode;
 use operation::Operation;
 
 /// A layer's name and its operations. A new layer is a new row.
-const LAYERS: &[(&str, &[Operation])] = &[("field", field::OPERATIONS), ("ring", ring::OPERATIONS)];
+const LAYERS: &[(&str, &[Operation])] = &[
+    ("field", field::OPERATIONS),
+    ("ring", ring::OPERATIONS),
+    ("lanes", lanes::OPERATIONS),
+];
 
 const USAGE: &str = "usage: oracle questions LAYER COUNT SEED\n       oracle answers";
 

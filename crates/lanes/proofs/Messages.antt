@@ -1,5 +1,5 @@
 -- How coefficients of an embedding and bytes of an extraction come about; both are canonical. Assumes nothing.
-use mathlib.Core.Path.{_≡_, refl, sym, ap, _∙_, subst}
+use mathlib.Core.Path.{_≡_, sym, ap, _∙_, subst}
 use mathlib.Core.Bool.{Bool, true, false}
 use mathlib.Core.List.{List}
 use mathlib.Core.Logic.{⊎-elim}
@@ -15,7 +15,7 @@ use Rattle.laws.proofs.Tests.{both}
 use Rattle.laws.proofs.Lists.{getD-tab}
 use Rattle.laws.proofs.Bounds.{tab-below}
 use Rattle.field.specs.Field.{P, Coefficients}
-use Rattle.lanes.specs.Bits.{bit, placed}
+use Rattle.lanes.specs.Bits.{placed}
 use Rattle.lanes.specs.Messages.{lifted, embedded, embed, chunk, judged, read, extracted, extract}
 use Rattle.lanes.proofs.Samplers.{bit-small}
 

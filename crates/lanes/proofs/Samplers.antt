@@ -9,7 +9,7 @@ use lib.ListN.{getD}
 use Rattle.laws.proofs.Bounds.{tab-below}
 use Rattle.laws.proofs.ModularSolver.{mod-ring, at, lit, rem, _⊞_, _⊠_}
 use Rattle.field.specs.Field.{P, Coefficients}
-use Rattle.lanes.specs.Bits.{bit, placed}
+use Rattle.lanes.specs.Bits.{bit}
 use Rattle.lanes.specs.Samplers.{big-endian, uniform, uniforms, ones, counts, short, shorts}
 
 pub uniform-below : (l : List ℕ) (s : ℕ) → uniform l s < P

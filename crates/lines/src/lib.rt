@@ -3,6 +3,7 @@
 use field::BFieldElement;
 use libc::STDIN_FILENO;
 use libc::STDOUT_FILENO;
+ghost use mathlib.Core.Path.{_≡_};
 ghost use Prim.Native.Nat.{_<_};
 ghost use lib.ListN.{length};
 ghost use Rattle.field.specs.Field.{P, Coefficients};
@@ -40,12 +41,18 @@ pub fn number(digits: &[u8]) -> u64 {
     x
 }
 
-// The next operand of a question, a space and 16 digits, as a canonical number.
+// The next operand of a question: a space and 16 digits.
+fn read_part() -> [u8; 17] {
+    let mut part = [0u8; 17];
+    io::read_full(STDIN_FILENO, &mut part);
+    part
+}
+
+// It as a canonical number.
 fn read_number() -> u64
     ensures { λ r. ⌜ r < P ⌝ }
 {
-    let mut part = [0u8; 17];
-    io::read_full(STDIN_FILENO, &mut part);
+    let part = read_part();
     number(&part[1..17]) % BFieldElement::P
 }
 
@@ -55,6 +62,27 @@ pub fn read_numbers(out: &mut [u64])
 {
     for i in 0..out.len() {
         out[i] = read_number();
+    }
+}
+
+// The byte of two digits.
+fn byte(high: u8, low: u8) -> u8 {
+    let b = digit(high) * 16 + digit(low);
+    b as u8
+}
+
+// As many bytes as out has room for, eight to an operand, the first the highest.
+pub fn read_bytes(out: &mut [u8])
+    ensures { λ r. ⌜ length (now (out .exit)) ≡ length (now (out .entry)) ⌝ }
+{
+    let mut part = [0u8; 17];
+    for i in 0..out.len() {
+        if i % 8 == 0 {
+            let next = read_part();
+            part = next;
+        }
+        let at = i % 8 * 2 + 1;
+        out[i] = byte(part[at], part[at + 1]);
     }
 }
 
@@ -93,6 +121,17 @@ pub fn tell_all(a: &[u64]) {
             space();
         }
         io::print_hex(STDOUT_FILENO, a[i], 16);
+    }
+    end_line();
+}
+
+// One answer of bytes, eight to a number.
+pub fn tell_bytes(a: &[u8]) {
+    for i in 0..a.len() {
+        if 0 < i && i % 8 == 0 {
+            space();
+        }
+        io::print_hex(STDOUT_FILENO, wide(a[i]), 2);
     }
     end_line();
 }

@@ -1,6 +1,6 @@
 -- One coefficient of an embedding with noise of lanes of size up to the limit: every chunk is judged to be its bit. A lane e is x - y, for naturals x and y.
 -- The borrow that a lane takes from the next stays a variable, and so does k, which is 1 where the sum came below 0 and p was added. Assumes nothing.
-use mathlib.Core.Path.{_≡_, refl, sym, ap, _∙_}
+use mathlib.Core.Path.{_≡_, sym, ap, _∙_}
 use mathlib.Core.Logic.{⊎-elim}
 use Prim.Native.Nat.{ℕ, _+_, _*_, _-_, _/_, _%_, _^_, _≤_, _<_}
 use native.Mathlib.Nat.{div-add-mod', div-div-eq-div-mul, div-one, mod-lt, mul-le-mul-right, mod-eq-of-lt, div-lt-iff-lt-mul}

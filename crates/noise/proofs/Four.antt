@@ -1,16 +1,16 @@
 -- Four signed lanes as data: what they are worth modulo p and how large they are; their sums, negatives and products. With Y = 2^16 a coefficient is a
 -- polynomial in Y, and Y⁴ = Y² - 1 modulo p, so that Y⁵ = Y³ - Y and Y⁶ = -1. Assumes nothing.
-use mathlib.Core.Path.{_≡_, refl, sym, ap, _∙_, subst}
-use mathlib.Core.List.{List, [], _∷_}
+use mathlib.Core.Path.{_≡_, refl, sym, _∙_}
+use mathlib.Core.List.{[], _∷_}
 use Prim.Native.Nat.{ℕ, _+_, _*_, _-_, _%_, _^_, _≤_, _<_}
-use native.Mathlib.Nat.{mod-eq-of-lt, mod-lt, le-trans}
+use native.Mathlib.Nat.{mod-eq-of-lt}
 use native.Mathlib.Omega.{arith}
 use lib.Dec.{lit<}
-use lib.IntN.{ℤ, pos, negsuc, _+ℤ_, _*ℤ_, negℤ}
+use lib.IntN.{ℤ, pos, _+ℤ_, _*ℤ_, negℤ}
 use Rattle.laws.specs.Congruence.{Cong}
 use Rattle.laws.specs.Integers.{residue}
-use Rattle.laws.proofs.Congruence.{c-refl, c-eq, c-trans, c-sym, c-add, c-mul, c-mod, c-neg}
-use Rattle.laws.proofs.ModularSolver.{Quoted, mod-ring, at, lit, rem, neg, _⊞_, _⊠_}
+use Rattle.laws.proofs.Congruence.{c-refl, c-eq, c-trans, c-sym, c-add, c-mul, c-neg}
+use Rattle.laws.proofs.ModularSolver.{Quoted, mod-ring, at, lit, neg, _⊞_, _⊠_}
 use Rattle.laws.proofs.Integers.{Sized, size-add, size-neg, size-mul, size-wider, Leaves, leaves-pos, leaves-cong, leaves-residue, residue-below, leaves-one, leaves-add, leaves-neg, leaves-mul}
 use Rattle.field.specs.Field.{P}
 use Rattle.lanes.specs.Bits.{placed}
@@ -143,36 +143,12 @@ within-negative w = record { s0 = size-neg (w .s0); s1 = size-neg (w .s1); s2 = 
 
 -- no lane of a product has more than six products of lanes
 pub within-mul : {b c : ℕ} {e f : Four} → Within b e → Within c f → Within (6 * (b * c)) (mul e f)
-within-mul {b} {c} {e} {f} w v = record {
-  s0 = size-wider (6 * (b * c)) (omega arith) (size-add (size-add (size-mul e0 f0) (size-neg (size-add (size-add (size-mul e1 f3) (size-mul e2 f2)) (size-mul e3 f1)))) (size-neg (size-mul e3 f3)));
-  s1 = size-wider (6 * (b * c)) (omega arith) (size-add (size-add (size-mul e0 f1) (size-mul e1 f0)) (size-neg (size-add (size-mul e2 f3) (size-mul e3 f2))));
-  s2 = size-wider (6 * (b * c)) (omega arith) (size-add (size-add (size-add (size-mul e0 f2) (size-mul e1 f1)) (size-mul e2 f0)) (size-add (size-add (size-mul e1 f3) (size-mul e2 f2)) (size-mul e3 f1)));
-  s3 = size-wider (6 * (b * c)) (omega arith) (size-add (size-add (size-add (size-add (size-mul e0 f3) (size-mul e1 f2)) (size-mul e2 f1)) (size-mul e3 f0)) (size-add (size-mul e2 f3) (size-mul e3 f2)));
+within-mul {b} {c} w v = record {
+  s0 = size-wider (6 * (b * c)) (omega arith) (size-add (size-add (size-mul (w .s0) (v .s0)) (size-neg (size-add (size-add (size-mul (w .s1) (v .s3)) (size-mul (w .s2) (v .s2))) (size-mul (w .s3) (v .s1))))) (size-neg (size-mul (w .s3) (v .s3))));
+  s1 = size-wider (6 * (b * c)) (omega arith) (size-add (size-add (size-mul (w .s0) (v .s1)) (size-mul (w .s1) (v .s0))) (size-neg (size-add (size-mul (w .s2) (v .s3)) (size-mul (w .s3) (v .s2)))));
+  s2 = size-wider (6 * (b * c)) (omega arith) (size-add (size-add (size-add (size-mul (w .s0) (v .s2)) (size-mul (w .s1) (v .s1))) (size-mul (w .s2) (v .s0))) (size-add (size-add (size-mul (w .s1) (v .s3)) (size-mul (w .s2) (v .s2))) (size-mul (w .s3) (v .s1))));
+  s3 = size-wider (6 * (b * c)) (omega arith) (size-add (size-add (size-add (size-add (size-mul (w .s0) (v .s3)) (size-mul (w .s1) (v .s2))) (size-mul (w .s2) (v .s1))) (size-mul (w .s3) (v .s0))) (size-add (size-mul (w .s2) (v .s3)) (size-mul (w .s3) (v .s2))));
 }
-  where
-    e0 : Sized (e .l0) b
-    e0 = w .s0
-
-    e1 : Sized (e .l1) b
-    e1 = w .s1
-
-    e2 : Sized (e .l2) b
-    e2 = w .s2
-
-    e3 : Sized (e .l3) b
-    e3 = w .s3
-
-    f0 : Sized (f .l0) c
-    f0 = v .s0
-
-    f1 : Sized (f .l1) c
-    f1 = v .s1
-
-    f2 : Sized (f .l2) c
-    f2 = v .s2
-
-    f3 : Sized (f .l3) c
-    f3 = v .s3
 
 -- ---- lanes of a number
 pub record On (b : ℕ) (e : Four) (w : ℕ) : Type 0 where

@@ -1,18 +1,17 @@
 -- The noise theorem, and that its bound is sharp. Assumes nothing.
 use mathlib.Core.Path.{_≡_, refl, sym, ap, _∙_, subst}
-use mathlib.Core.List.{List, [], _∷_}
-use mathlib.Core.Logic.{⊎-elim}
-use Prim.Native.Nat.{ℕ, zero, suc, _+_, _*_, _-_, _/_, _%_, _^_, _≤_, _<_}
+use mathlib.Core.List.{List, _∷_}
+use Prim.Native.Nat.{ℕ, zero, suc, _+_, _*_, _%_, _^_, _<_}
 use native.Mathlib.Nat.{add-assoc, add-zero, mod-lt, mod-eq-of-lt}
 use native.Mathlib.Omega.{arith}
 use lib.Dec.{lit<, lit≤}
-use lib.IntN.{ℤ, pos, negsuc, natAbs}
-use lib.ListN.{length, getD, replicate}
+use lib.IntN.{ℤ, pos, negsuc}
+use lib.ListN.{getD, replicate}
 use Rattle.laws.specs.Lists.{tab, tabFrom, Below}
 use Rattle.laws.specs.Congruence.{Cong}
 use Rattle.laws.specs.Integers.{residue}
 use Rattle.laws.proofs.Tests.{equal-at}
-use Rattle.laws.proofs.Lists.{getD-tab, is-tab, length-tab}
+use Rattle.laws.proofs.Lists.{getD-tab, is-tab}
 use Rattle.laws.proofs.Bounds.{tab-below}
 use Rattle.laws.proofs.Congruence.{c-refl, c-eq, c-trans, c-sym, c-add, c-mul, c-mod}
 use Rattle.laws.proofs.Integers.{Sized, over, under, over-at-most, under-at-most, leaves-residue}
@@ -24,7 +23,7 @@ use Rattle.lanes.proofs.Samplers.{bit-small}
 use Rattle.lanes.proofs.Messages.{embed-even, embed-odd, embed-canonical}
 use Rattle.noise.specs.Lanes.{Lanes, limit, Harmless}
 use Rattle.noise.proofs.Chunks.{Noisy, reads}
-use Rattle.noise.proofs.Four.{Four, worth, Within, On, four-of, lanes-on, on-lanes}
+use Rattle.noise.proofs.Four.{Four, worth, On, four-of, lanes-on}
 
 -- ---- one coefficient
 -- the negative parts of the lanes brought to the other side

@@ -2,12 +2,12 @@
 use mathlib.Core.Path.{_≡_, refl, sym, ap, _∙_, subst}
 use mathlib.Core.Bool.{Bool, true, false}
 use mathlib.Core.List.{List}
-use Prim.Native.Nat.{ℕ, zero, suc, _+_, _*_, _-_, _%_, _≤_, _<_}
-use native.Mathlib.Nat.{mod-eq-of-lt, le-of-lt}
+use Prim.Native.Nat.{ℕ, zero, suc, _+_, _*_, _-_, _%_, _<_}
+use native.Mathlib.Nat.{mod-eq-of-lt}
 use native.Mathlib.Omega.{arith}
 use lib.Dec.{leb}
 use lib.ListN.{getD}
-use borrow.Author.Tests.{leb-true, leb-false}
+use borrow.Author.Tests.{leb-false}
 use Rattle.laws.specs.Lists.{tab}
 use Rattle.laws.specs.Sums.{total}
 use Rattle.laws.specs.Congruence.{Cong}
@@ -15,11 +15,11 @@ use Rattle.laws.specs.Integers.{residue}
 use Rattle.laws.proofs.Lists.{getD-tab}
 use Rattle.laws.proofs.Congruence.{c-eq, c-trans, c-sym, c-add, c-mul, c-mod}
 use Rattle.laws.proofs.Integers.{Sized}
-use Rattle.field.specs.Field.{P, Coefficients}
+use Rattle.field.specs.Field.{P}
 use Rattle.ring.specs.Elements.{minus, shift, product}
 use Rattle.ring.specs.Matrices.{ring-dot}
 use Rattle.ring.proofs.Residue.{remainders}
-use Rattle.noise.proofs.Four.{Four, worth, none, add, negative, mul, worth-add, worth-negative, worth-mul, Within, within-add, within-negative, within-mul, On}
+use Rattle.noise.proofs.Four.{Four, worth, none, add, negative, mul, worth-add, worth-negative, worth-mul, within-add, within-negative, within-mul, On}
 
 -- ---- one number
 pub on-cong : {b v w : ℕ} {e : Four} → Cong P v w → On b e v → On b e w

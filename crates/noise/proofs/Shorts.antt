@@ -1,7 +1,7 @@
 -- The lanes of what the short sampler draws, for any count of a byte's bits that is at most s, and of the noise of vectors that it draws. Assumes nothing.
-use mathlib.Core.Path.{_≡_, refl, sym, ap, _∙_, subst}
+use mathlib.Core.Path.{_≡_, refl, sym, _∙_}
 use mathlib.Core.List.{List, [], _∷_}
-use Prim.Native.Nat.{ℕ, _+_, _*_, _-_, _%_, _^_, _≤_, _<_}
+use Prim.Native.Nat.{ℕ, _+_, _*_, _-_, _%_, _≤_, _<_}
 use native.Mathlib.Omega.{arith}
 use lib.Dec.{lit<, lit≤}
 use lib.IntN.{ℤ, pos, _+ℤ_, negℤ}
@@ -16,7 +16,7 @@ use Rattle.ring.proofs.Cells.{cell-at, cell-canonical}
 use Rattle.lanes.specs.Samplers.{ones, counts, short, shorts}
 use Rattle.lanes.proofs.Samplers.{ones-small, shorts-canonical}
 use Rattle.noise.specs.Lanes.{Lanes, noise, guaranteed}
-use Rattle.noise.proofs.Four.{Four, worth, worth-of, quoted, On, on-lanes, lanes-wider}
+use Rattle.noise.proofs.Four.{Four, worth-of, quoted, On, on-lanes, lanes-wider}
 use Rattle.noise.proofs.Products.{In, on-cong, in-noise}
 
 module _ (count : ℕ → ℕ) (s : ℕ) (small : (n : ℕ) → count n ≤ s) where

@@ -3,7 +3,7 @@ use borrow.Author.Needs.{needs}
 use native.Mathlib.Omega.{arith}
 use Prim.Native.Nat.{ℕ, _+_, _*_, _-_, _≤_, _/_}
 use mathlib.Core.Path.{_≡_, sym, _∙_, ap}
-use lib.ListN.{length, getD, length-set}
+use lib.ListN.{getD, length-set}
 use Rattle.laws.proofs.Updates.{Filled, mapped-none, mapped-more, mapped-all, mapped-at}
 use Rattle.lanes.specs.Messages.{lifted, embedded, embed}
 use Rattle.lanes.proofs.Messages.{lifted-upper, embedded-even, embedded-odd}

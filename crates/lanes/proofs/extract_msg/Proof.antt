@@ -2,8 +2,7 @@
 use borrow.Author.Needs.{needs}
 use native.Mathlib.Omega.{arith}
 use Prim.Native.Nat.{_+_, _*_, _-_, _≤_}
-use mathlib.Core.Path.{_≡_, ap}
-use lib.ListN.{length}
+use mathlib.Core.Path.{_≡_}
 use Rattle.laws.proofs.Updates.{Filled, mapped-none, mapped-more, mapped-all, mapped-at}
 use Rattle.lanes.specs.Messages.{extracted, extract}
 use Rattle.lanes.proofs.extract_msg.Statement.{statement}

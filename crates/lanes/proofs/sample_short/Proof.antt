@@ -1,5 +1,5 @@
 -- `sample_short` draws 64 short coefficients. Assumes nothing.
-use Prim.Native.Nat.{ℕ, _-_}
+use Prim.Native.Nat.{ℕ}
 use mathlib.Core.Path.{_∙_, ap}
 use borrow.Author.Needs.{needs}
 use Rattle.lanes.specs.Samplers.{ones, shorts}

@@ -2,7 +2,7 @@
 use borrow.Author.Needs.{needs}
 use native.Mathlib.Omega.{arith}
 use Prim.Native.Nat.{_*_, _-_, _≤_}
-use mathlib.Core.Path.{_≡_, refl, ap}
+use mathlib.Core.Path.{_≡_, refl}
 use lib.ListN.{length}
 use Rattle.laws.proofs.Updates.{Filled, mapped-none, mapped-more, mapped-all, mapped-at}
 use Rattle.lanes.specs.Samplers.{ones, short, shorts}

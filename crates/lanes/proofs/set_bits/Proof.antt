@@ -1,5 +1,5 @@
 -- `set_bits` looks the count up. Assumes nothing.
-use Prim.Native.Nat.{ℕ, _-_, _≤_}
+use Prim.Native.Nat.{ℕ, _≤_}
 use mathlib.Core.Path.{sym, _∙_, ap, subst}
 use lib.ListN.{getD}
 use borrow.Author.Needs.{needs}

@@ -1,0 +1,84 @@
+// Answers questions on samplers and message lanes, one to a line, as oracle/README.md describes the lines; the same questions are put to the Rust.
+// The file stdin holds a sample of them, and stdout what the Rust answered.
+use libc::STDIN_FILENO;
+
+// No run has more questions.
+const MOST: u64 = 100_000_000;
+
+const SHRT: u64 = 0x7368_7274;
+
+const SSHR: u64 = 0x7373_6872;
+
+const SUNI: u64 = 0x7375_6e69;
+
+const EMBD: u64 = 0x656d_6264;
+
+const EXTR: u64 = 0x6578_7472;
+
+fn answer_short_coefficient() {
+    let mut randomness = [0u8; 8];
+    lines::read_bytes(&mut randomness);
+    lines::tell(lanes::sample_short_bfield_element(&randomness));
+}
+
+fn answer_short() {
+    let mut randomness = [0u8; 512];
+    let mut element = [0u64; 64];
+    lines::read_bytes(&mut randomness);
+    lanes::sample_short(&randomness, &mut element);
+    lines::tell_all(&element);
+}
+
+fn answer_uniform() {
+    let mut randomness = [0u8; 576];
+    let mut element = [0u64; 64];
+    lines::read_bytes(&mut randomness);
+    lanes::sample_uniform(&randomness, &mut element);
+    lines::tell_all(&element);
+}
+
+fn answer_embedding() {
+    let mut payload = [0u8; 32];
+    let mut element = [0u64; 64];
+    lines::read_bytes(&mut payload);
+    lanes::embed_msg(&payload, &mut element);
+    lines::tell_all(&element);
+}
+
+fn answer_extraction() {
+    let mut element = [0u64; 64];
+    let mut payload = [0u8; 32];
+    lines::read_numbers(&mut element);
+    lanes::extract_msg(&element, &mut payload);
+    lines::tell_bytes(&payload);
+}
+
+// Reads and answers one question; false where there is none left, or an unknown one.
+fn answer_next() -> bool {
+    let mut name = [0u8; 4];
+    if io::read_full(STDIN_FILENO, &mut name) < 4 {
+        return false;
+    }
+    let op = lines::word(&name);
+    if op == SHRT {
+        answer_short_coefficient();
+    } else if op == SSHR {
+        answer_short();
+    } else if op == SUNI {
+        answer_uniform();
+    } else if op == EMBD {
+        answer_embedding();
+    } else if op == EXTR {
+        answer_extraction();
+    } else {
+        return false;
+    }
+    lines::read_end()
+}
+
+fn main() {
+    let mut asked: u64 = 0;
+    while asked < MOST && answer_next() {
+        asked += 1;
+    }
+}
