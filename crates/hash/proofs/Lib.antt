@@ -7,3 +7,4 @@ pub mod Absorbed
 pub mod Squeezed
 pub mod Hashes
 pub mod Outputs
+pub mod Examples

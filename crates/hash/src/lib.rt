@@ -1,4 +1,5 @@
-// The sponge of FIPS 202, chapters 4 to 6, on lent slices of bytes, for any rate; SHAKE256 and SHA3-256.
+// The sponge of FIPS 202, chapters 4 to 6, on lent slices of bytes, for any rate of at most 200 bytes; SHAKE256 and SHA3-256.
+// A running sponge is 25 lanes, which the caller lends, and the place in the block of `rate` bytes where the next byte goes or comes from.
 ghost use mathlib.Core.Path.{_≡_};
 ghost use Prim.Native.Nat.{_+_, _%_, _<_, _≤_};
 ghost use lib.ListN.{length};
@@ -18,6 +19,7 @@ fn least(a: usize, b: usize) -> usize
     if a < b { a } else { b }
 }
 
+// Into byte `at` of the lanes.
 fn add_byte(lanes: &mut [u64; 25], at: usize, b: u8)
     requires { ⌜ at < 200 ⌝ }
     ensures { λ _. ⌜ now (lanes .exit) ≡ xor-byte (now (lanes .entry)) at b ⌝ }
@@ -32,7 +34,7 @@ fn byte_at(lanes: &[u64; 25], at: usize) -> u8
     ((lanes[at / 8] >> ((at % 8) * 8) as u64) % 256) as u8
 }
 
-// Eight stores side by side, which LLVM makes one.
+// The lane's bytes, lowest first. Eight stores side by side, which LLVM makes one.
 fn put_lane(x: u64, out: &mut [u8], at: usize)
     requires { ⌜ at + 8 ≤ length (now out) ⌝ }
     ensures { λ _. ⌜ now (out .exit) ≡ lane-stored x (now (out .entry)) at ⌝ }
@@ -83,9 +85,11 @@ fn copy_out(lanes: &[u64; 25], at: usize, out: &mut [u8])
     }
 }
 
+// A part of the message; the place after it. A block that is full is permuted at once.
 pub fn absorb(lanes: &mut [u64; 25], rate: usize, start: usize, part: &[u8]) -> usize
     requires { ⌜ (start < rate) × (rate ≤ 200) ⌝ }
-    ensures { λ r. ⌜ (run (now (lanes .exit)) r ≡ feed rate (run (now (lanes .entry)) start) (now (part .entry))) × (r < rate) ⌝ }
+    ensures { λ r. ⌜ run (now (lanes .exit)) r ≡ feed rate (run (now (lanes .entry)) start) (now (part .entry)) ⌝ }
+    ensures { λ r. ⌜ r < rate ⌝ }
 {
     let mut at = start;
     let mut i: usize = 0;
@@ -101,6 +105,8 @@ pub fn absorb(lanes: &mut [u64; 25], rate: usize, start: usize, part: &[u8]) -> 
     at
 }
 
+// The message has ended: its suffix with the padding's first bit, and the padding's last bit. The block is used up, and the first draw, from
+// place `rate`, permutes it: so the permutation is called from one place here and one in absorb.
 pub fn finish(lanes: &mut [u64; 25], rate: usize, at: usize, suffix: u8)
     requires { ⌜ (at < rate) × (rate ≤ 200) ⌝ }
     ensures { λ _. ⌜ run (now (lanes .exit)) rate ≡ closed rate (run (now (lanes .entry)) at) suffix ⌝ }
@@ -109,9 +115,12 @@ pub fn finish(lanes: &mut [u64; 25], rate: usize, at: usize, suffix: u8)
     add_byte(lanes, rate - 1, 128);
 }
 
+// A part of the output; the place after it. A block that is used up is permuted when the next byte is asked for.
 pub fn squeeze(lanes: &mut [u64; 25], rate: usize, start: usize, out: &mut [u8]) -> usize
     requires { ⌜ (0 < rate) × (start ≤ rate) × (rate ≤ 200) ⌝ }
-    ensures { λ r. ⌜ (now (out .exit) ≡ drawn rate (length (now (out .entry))) (run (now (lanes .entry)) start)) × (run (now (lanes .exit)) r ≡ rest rate (length (now (out .entry))) (run (now (lanes .entry)) start)) × (r ≤ rate) ⌝ }
+    ensures { λ r. ⌜ now (out .exit) ≡ drawn rate (length (now (out .entry))) (run (now (lanes .entry)) start) ⌝ }
+    ensures { λ r. ⌜ run (now (lanes .exit)) r ≡ rest rate (length (now (out .entry))) (run (now (lanes .entry)) start) ⌝ }
+    ensures { λ r. ⌜ r ≤ rate ⌝ }
 {
     let mut at = start;
     let mut i: usize = 0;
@@ -129,7 +138,8 @@ pub fn squeeze(lanes: &mut [u64; 25], rate: usize, start: usize, out: &mut [u8])
     at
 }
 
-fn hash(rate: usize, suffix: u8, message: &[u8], output: &mut [u8])
+// A whole hash. A suffix of at most six bits and the padding's first bit make the byte `suffix`.
+fn sponge(rate: usize, suffix: u8, message: &[u8], output: &mut [u8])
     requires { ⌜ (0 < rate) × (rate ≤ 200) ⌝ }
     ensures { λ _. ⌜ now (output .exit) ≡ hashed rate suffix (now (message .entry)) (length (now (output .entry))) ⌝ }
 {
@@ -139,15 +149,17 @@ fn hash(rate: usize, suffix: u8, message: &[u8], output: &mut [u8])
     squeeze(&mut lanes, rate, rate, output);
 }
 
+// FIPS 202, 6.2: as many bytes of SHAKE256 of the message as the output has room for.
 pub fn shake256(message: &[u8], output: &mut [u8])
     ensures { λ _. ⌜ now (output .exit) ≡ shake256 (now (message .entry)) (length (now (output .entry))) ⌝ }
 {
-    hash(136, 31, message, output);
+    sponge(136, 0x1f, message, output);
 }
 
+// FIPS 202, 6.1: SHA3-256 of the message.
 pub fn sha3_256(message: &[u8], output: &mut [u8])
     requires { ⌜ length (now output) ≡ 32 ⌝ }
     ensures { λ _. ⌜ now (output .exit) ≡ sha3-256 (now (message .entry)) ⌝ }
 {
-    hash(136, 6, message, output);
+    sponge(136, 0x06, message, output);
 }
