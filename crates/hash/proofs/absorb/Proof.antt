@@ -1,13 +1,14 @@
--- `absorb` has fed i bytes after i turns. Assumes nothing.
+-- `absorb` has fed the first i bytes, block by block. Assumes nothing.
 use borrow.Author.Needs.{needs}
 use native.Mathlib.Omega.{arith}
-use Prim.Native.Nat.{_-_, _≤_, _<_}
+use Prim.Native.Nat.{ℕ, _+_, _-_, _≤_, _<_}
 use mathlib.Core.Path.{_≡_, sym, _∙_, ap}
-use mathlib.Core.Logic.{⊎-elim}
 use lib.ListN.{length}
 use lib.ListN.{take}
 use lib.Seq.{take-all}
 use Rattle.hash.specs.Running.{run, feed}
+use mathlib.Core.List.{List}
+use lib.ListN.{drop}
 use Rattle.hash.proofs.Cuts.{feed-step, turn-yes, turn-no}
 use Rattle.hash.proofs.absorb.Statement.{statement}
 use Rattle.hash.proofs.absorb.Tie as tie
@@ -25,18 +26,36 @@ loop-holds c = search needs
 
 loop-again : tie.Need-loop-again Inv-loop μ-loop
 loop-again c =
-    let in-loop = c .before .before .before .before in
-    let at-loop = in-loop .before in
-    let fed = feed-step _ _ _ _ _ _ _ (in-loop .loop-test .taken) (at-loop .loop .inv .1) (c .before .add-byte .ensures) in
-    ⊎-elim
-    (λ w. (omega arith, (λ j. run ((w .3 ∙ w .2 .ensures) j) (w .4 j)) ∙ sym (turn-yes _ _ _ (w .0 .taken)) ∙ fed, omega arith))
-    (λ w. (omega arith, (λ j. run (w .1 j) (w .2 j)) ∙ sym (turn-no _ _ _ (w .0 .left)) ∙ fed, omega arith))
-    (c .if1 .came)
+    let done = c .before .before .before in
+    let at = done .before .before .before .before .before in
+    let n = done .before .before .before .least .result in
+    let i = at .loop .i in
+    let part = at .before .before .args .part .now in
+    let fits : at .loop .at + n ≤ at .before .before .args .rate = omega arith in
+    let within : i + n ≤ length part = omega arith in
+    let cut : (i + n) - i ≡ n = omega arith in
+    let fed = feed-step _ _ _ _ _ _ _ _ n (at .loop .inv .2) fits within (at .loop .inv .1) (ap (λ (k : ℕ). take k (drop i part)) cut) (done .add-part .ensures) in
+    (within, ap (λ (l : List ℕ). run l 0) (c .permute .ensures) ∙ sym (turn-yes _ _ _ (c .before .before .if1 .taken)) ∙ fed, omega arith)
+
+loop-again-2 : tie.Need-loop-again-2 Inv-loop μ-loop
+loop-again-2 c =
+    let done = c .before in
+    let at = done .before .before .before .before .before in
+    let n = done .before .before .before .least .result in
+    let i = at .loop .i in
+    let part = at .before .before .args .part .now in
+    let fits : at .loop .at + n ≤ at .before .before .args .rate = omega arith in
+    let within : i + n ≤ length part = omega arith in
+    let cut : (i + n) - i ≡ n = omega arith in
+    let fed = feed-step _ _ _ _ _ _ _ _ n (at .loop .inv .2) fits within (at .loop .inv .1) (ap (λ (k : ℕ). take k (drop i part)) cut) (done .add-part .ensures) in
+    (within, sym (turn-no _ _ _ (c .if1 .left)) ∙ fed, omega arith)
 
 returns : tie.Need-returns Inv-loop μ-loop
 returns c = (c .before .loop .inv .1 ∙ ap (feed _ _) (take-all _ _ (c .loop-test .left)), omega arith)
 
 pub absorb-spec : {M : Type 1} → statement M
 absorb-spec =
-    tie.close (tie.spec Inv-loop μ-loop loop-holds (λ c. search needs) (λ c κs. search needs) (λ c. search needs)
-    (λ c κs. search needs) (λ c. search needs) (λ c. search needs) loop-again returns)
+    tie.close (tie.spec Inv-loop μ-loop loop-holds (λ c. search needs) (λ c. search needs) (λ c κs. search needs)
+    (λ c. search needs) (λ c. search needs) (λ c. search needs) (λ c. search needs) (λ c κs. search needs)
+    (λ c. search needs) (λ c κs. search needs) (λ c. search needs) loop-again (λ c. search needs) loop-again-2
+    returns)

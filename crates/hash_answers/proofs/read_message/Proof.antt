@@ -1,8 +1,7 @@
 -- `read_message` reads a line of hex and decodes it within its buffers. Assumes nothing.
 use native.Mathlib.Omega.{arith}
 use Prim.Native.Nat.{_-_}
-use mathlib.Core.Path.{ap}
-use lib.ListN.{length-append, length}
+use lib.ListN.{length-append}
 use borrow.Author.Needs.{needs}
 use Rattle.hash_answers.proofs.read_message.Statement.{statement}
 use Rattle.hash_answers.proofs.read_message.Tie as tie
