@@ -23,11 +23,21 @@ byte-of l j = getD l (j / 8) 0 / 2 ^ (j % 8 * 8) % 256
 unfoldable pub xor-byte : List ℕ → ℕ → ℕ → List ℕ
 xor-byte l j b = set l (j / 8) (bitXor (getD l (j / 8) 0) (b * 2 ^ (j % 8 * 8)))
 
+-- a list of bytes, one after the other from place j on
+unfoldable pub xor-bytes : List ℕ → ℕ → List ℕ → List ℕ
+xor-bytes l j [] = l
+xor-bytes l j (b ∷ m) = xor-bytes (xor-byte l j b) (suc j) m
+
 -- n bytes of the lanes from place j on
 unfoldable pub bytes-from : List ℕ → ℕ → ℕ → List ℕ
 bytes-from l j n = tab n (λ i. byte-of l (j + i))
 
--- the eight bytes of the lane x in a list from place j on
+-- the lane that eight bytes of a list make from place j on, and a list with the eight bytes of the lane x there
+unfoldable pub lane-of : List ℕ → ℕ → ℕ
+lane-of m j =
+    getD m j 0 + getD m (j + 1) 0 * 256 + getD m (j + 2) 0 * 65536 + getD m (j + 3) 0 * 16777216 + getD m (j + 4) 0 * 4294967296
+    + getD m (j + 5) 0 * 1099511627776 + getD m (j + 6) 0 * 281474976710656 + getD m (j + 7) 0 * 72057594037927936
+
 unfoldable pub lane-stored : ℕ → List ℕ → ℕ → List ℕ
 lane-stored x l j =
     set (set (set (set (set (set (set (set l j (x % 256)) (j + 1) (x / 256 % 256)) (j + 2) (x / 65536 % 256)) (j + 3) (x / 16777216 % 256))

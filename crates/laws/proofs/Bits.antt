@@ -2,10 +2,10 @@
 use mathlib.Core.Path.{_≡_, refl, sym, ap, ap₂, _∙_}
 use mathlib.Core.Logic.{_⊎_, inl, inr, ⊎-elim}
 use Prim.Native.Nat.{ℕ, zero, suc, _+_, _-_, _*_, _/_, _%_, _^_, _<_, _≤_}
-use native.Mathlib.Nat.{add-comm, add-zero, not-suc-le-zero, le-of-suc-le-suc, mod-eq-of-lt, div-one, div-eq-of-lt, lt-of-lt-of-le}
+use native.Mathlib.Nat.{pow-zero, pow-suc, add-comm, add-zero, not-suc-le-zero, le-of-suc-le-suc, mod-eq-of-lt, div-one, div-eq-of-lt, lt-of-lt-of-le}
 use native.Mathlib.Numerals.{add-one}
 use native.Mathlib.Omega.{arith}
-use lib.Bits.{bitXor, bitAnd, xor-shr, xor-mod, and-shr, and-mod, xor-add-and, and-mask, block-half, block-odd}
+use lib.Bits.{bitXor, bitAnd, xor-lt, xor-shr, xor-mod, and-shr, and-mod, xor-add-and, and-mask, block-half, block-odd}
 use lib.Pow.{pow-pos, pow-mono, split, high, shr-shr, ones-split}
 use Rattle.laws.specs.Bits.{bit}
 
@@ -107,3 +107,30 @@ bit-not w a z h l =
     let e : w ≡ suc (w - suc z) + z = omega arith in
     ap (λ (n : ℕ). bit n z) (not-xor w a h) ∙ bit-xor a (2 ^ w - 1) z
     ∙ ap (λ (n : ℕ). (bit a z + n) % 2) (ap (λ (n : ℕ). bit (2 ^ n - 1) z) e ∙ bit-ones (w - suc z) z)
+
+-- numbers with the same digits
+pub bit-ext : (w a b : ℕ) → a < 2 ^ w → b < 2 ^ w → ((z : ℕ) → z < w → bit a z ≡ bit b z) → a ≡ b
+unfolding bit
+bit-ext zero a b ha hb e = let p : a ≡ 0 = omega (arith, pow-zero 2) in let q : b ≡ 0 = omega (arith, pow-zero 2) in p ∙ sym q
+bit-ext (suc w) a b ha hb e =
+    let half : a / 2 ≡ b / 2 =
+    bit-ext w (a / 2) (b / 2) (omega (arith, pow-suc 2 w)) (omega (arith, pow-suc 2 w)) (λ z h. sym (bit-suc a z) ∙ e (suc z) (omega arith) ∙ bit-suc b z) in
+    let low : a % 2 ≡ b % 2 = ap (λ (n : ℕ). n % 2) (sym (div-one a)) ∙ e 0 (omega arith) ∙ ap (λ (n : ℕ). n % 2) (div-one b) in
+    omega arith
+
+lt-pow : (n : ℕ) → n < 2 ^ n
+lt-pow zero = pow-pos 0
+lt-pow (suc n) = let h : n < 2 ^ n = lt-pow n in omega (arith, pow-suc 2 n)
+
+pub xor-assoc : (a b c : ℕ) → bitXor (bitXor a b) c ≡ bitXor a (bitXor b c)
+xor-assoc a b c =
+    let w : ℕ = a + b + c in
+    let ha : a < 2 ^ (a + b + c) = lt-of-lt-of-le (lt-pow a) (pow-mono {i = a} {j = a + b + c} (omega arith)) in
+    let hb : b < 2 ^ (a + b + c) = lt-of-lt-of-le (lt-pow b) (pow-mono {i = b} {j = a + b + c} (omega arith)) in
+    let hc : c < 2 ^ (a + b + c) = lt-of-lt-of-le (lt-pow c) (pow-mono {i = c} {j = a + b + c} (omega arith)) in
+    bit-ext w (bitXor (bitXor a b) c) (bitXor a (bitXor b c)) (xor-lt w _ _ (xor-lt w _ _ ha hb) hc) (xor-lt w _ _ ha (xor-lt w _ _ hb hc))
+    (λ z h. bit-xor (bitXor a b) c z ∙ ap (λ (n : ℕ). (n + bit c z) % 2) (bit-xor a b z) ∙ sums (bit a z) (bit b z) (bit c z)
+    ∙ sym (bit-xor a (bitXor b c) z ∙ ap (λ (n : ℕ). (bit a z + n) % 2) (bit-xor b c z)))
+  where
+    sums : (x y z : ℕ) → ((x + y) % 2 + z) % 2 ≡ (x + (y + z) % 2) % 2
+    sums x y z = omega arith

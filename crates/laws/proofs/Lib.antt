@@ -3,6 +3,7 @@ pub mod Orders
 pub mod Tests
 pub mod Lists
 pub mod Updates
+pub mod Parts
 pub mod Congruence
 pub mod Wrapping
 pub mod Powers

@@ -11,7 +11,7 @@ use Rattle.lanes.specs.Messages.{embed}
 use Rattle.lanes.specs.Samplers.{ones}
 use Rattle.packets.specs.Packets.{bg-of, bga-m-of}
 use Rattle.packets.proofs.Sizes.{bg-canonical, bga-m-canonical}
-use Rattle.seal.proofs.Parts.{put-two}
+use Rattle.laws.proofs.Parts.{put-two}
 use Rattle.seal.proofs.Vectors.{told-canonical}
 use Rattle.seal.proofs.seal_payload.Statement.{statement}
 use Rattle.seal.proofs.seal_payload.Tie as tie

@@ -1,12 +1,12 @@
--- `hash` feeds, closes and draws. Assumes nothing.
+-- `sponge` feeds, closes and draws. Assumes nothing.
 use Prim.Native.Nat.{_-_}
 use mathlib.Core.Path.{_∙_, ap}
 use lib.ListN.{length}
 use borrow.Author.Needs.{needs}
 use denote.Ref.{now}
 use Rattle.hash.specs.Running.{Running, closed, drawn, hashed}
-use Rattle.hash.proofs.hash.Statement.{statement}
-use Rattle.hash.proofs.hash.Tie as tie
+use Rattle.hash.proofs.sponge.Statement.{statement}
+use Rattle.hash.proofs.sponge.Tie as tie
 
 returns : tie.Need-returns
 unfolding hashed
@@ -18,6 +18,6 @@ returns c =
     q .squeeze .ensures .0
     ∙ ap (drawn (args .rate) (length (now (args .output)))) (f .finish .ensures ∙ ap (λ (s : Running). closed (args .rate) s (args .suffix)) (a .absorb .ensures .0))
 
-pub hash-spec : {M : Type 1} → statement M
-hash-spec =
+pub sponge-spec : {M : Type 1} → statement M
+sponge-spec =
     tie.close (tie.spec (λ c κs. search needs) (λ c κs. search needs) (λ c κs. search needs) (λ c. search needs) returns)
