@@ -57,7 +57,8 @@ fn public(numbers: &[u64]) -> PublicKey {
 }
 
 fn packet(coefficients: &[u64]) -> Ciphertext {
-    let elements: [BFieldElement; 320] = std::array::from_fn(|i| BFieldElement::new(coefficients[i]));
+    let elements: [BFieldElement; 320] =
+        std::array::from_fn(|i| BFieldElement::new(coefficients[i]));
     elements.into()
 }
 
@@ -92,7 +93,12 @@ fn four(random: &mut Random) -> Vec<u64> {
 
 /// All bits zero, all one, one bit in each number; then draws.
 fn randomness(count: usize, random: &mut Random) -> Vec<Vec<u64>> {
-    let edges = [vec![0; 4], vec![u64::MAX; 4], vec![1, 0, 0, 0], vec![0, 0, 0, 1 << 63]];
+    let edges = [
+        vec![0; 4],
+        vec![u64::MAX; 4],
+        vec![1, 0, 0, 0],
+        vec![0, 0, 0, 1 << 63],
+    ];
     let draws = (edges.len()..count).map(|_| four(random));
     edges.iter().cloned().chain(draws).collect()
 }
@@ -231,7 +237,10 @@ fn sum(a: u64, b: u64) -> u64 {
 }
 
 fn add_to(coefficients: &mut [u64], shift: &[u64]) {
-    coefficients.iter_mut().zip(shift).for_each(|(x, y)| *x = sum(*x, *y));
+    coefficients
+        .iter_mut()
+        .zip(shift)
+        .for_each(|(x, y)| *x = sum(*x, *y));
 }
 
 /// A ring element that is zero at all but `width` of the 64 places after the transform, and whose coefficients before it are small in
