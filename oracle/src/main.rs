@@ -1,6 +1,7 @@
 //! Asks questions and answers them by the published Rust, so that another program's answers can be compared.
 
 mod field;
+mod kem;
 mod lanes;
 mod line;
 mod operation;
@@ -17,6 +18,7 @@ const LAYERS: &[(&str, &[Operation])] = &[
     ("field", field::OPERATIONS),
     ("ring", ring::OPERATIONS),
     ("lanes", lanes::OPERATIONS),
+    ("kem", kem::OPERATIONS),
 ];
 
 const USAGE: &str = "usage: oracle questions LAYER COUNT SEED\n       oracle answers";

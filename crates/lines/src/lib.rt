@@ -125,13 +125,23 @@ pub fn tell_all(a: &[u64]) {
     end_line();
 }
 
-// One answer of bytes, eight to a number.
-pub fn tell_bytes(a: &[u8]) {
+fn put_bytes(a: &[u8]) {
     for i in 0..a.len() {
         if 0 < i && i % 8 == 0 {
             space();
         }
         io::print_hex(STDOUT_FILENO, wide(a[i]), 2);
     }
+}
+
+// One answer of bytes, eight to a number.
+pub fn tell_bytes(a: &[u8]) {
+    put_bytes(a);
     end_line();
+}
+
+// The first bytes of an answer that goes on.
+pub fn begin_bytes(a: &[u8]) {
+    put_bytes(a);
+    space();
 }
