@@ -6,7 +6,11 @@ use Prim.Native.Nat.{ℕ, _<_}
 use lib.ListN.{length}
 use borrow.Author.Tests.{eqb-true}
 use Rattle.field.specs.Field.{P, Coefficients}
-use Rattle.judge.specs.Judgement.{Arg, judged, fine, value, numbers, room, at-most}
+use Rattle.judge.specs.Judgement.{Arg, Told, judged, fine, value, numbers, room, at-most}
+use Rattle.judge.specs.Answers.{said, Fills}
+use Rattle.judge.specs.declared.Answer.{Answer}
+use Rattle.judge.specs.declared.Answer.the-variants.{Done}
+use Rattle.judge.proofs.Calls.{done-fine, fills-yes}
 use Rattle.judge.proofs.Leads.{Canonical}
 use Rattle.judge.proofs.Exactly.{Clean, exactly-0}
 
@@ -46,3 +50,7 @@ sampling-good l n given size e =
 
 pub digest-good : (l n given size : ℕ) → judged (at-most l given ∷ room n size ∷ []) ≡ fine → size ≡ n
 digest-good l n given size e = eqb-true size n (clean (at-most l given ∷ room n size ∷ []) e .all-fit 1)
+
+-- the good end of a call that is judged t, by the answer v, and fills a buffer
+pub fills-done : (v : Answer) (t : Told) (old new result : List ℕ) → v ≡ Done → said v ≡ t → new ≡ result → Fills t Done old new result
+fills-done v t old new result e f g = fills-yes t old new result (done-fine v t e f) g

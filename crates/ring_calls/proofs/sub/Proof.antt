@@ -1,7 +1,7 @@
 -- `sub` answers as it is judged, and fills the buffer where nothing is wrong. Assumes nothing.
 use borrow.Author.Needs.{needs}
-use Rattle.judge.proofs.Calls.{done-fine, fills-no, fills-yes}
-use Rattle.calls.proofs.Shapes.{operands-good}
+use Rattle.judge.proofs.Calls.{done-fine, fills-no}
+use Rattle.calls.proofs.Shapes.{operands-good, fills-done}
 use Rattle.ring_calls.proofs.sub.Statement.{statement}
 use Rattle.ring_calls.proofs.sub.Tie as tie
 
@@ -12,9 +12,7 @@ sub-requires : tie.Need-sub-requires
 sub-requires c κs = operands-good _ _ _ _ _ _ (done-fine _ _ (c .before .enum-told .given .1) (c .before .before .before .judge-operands .ensures))
 
 returns-2 : tie.Need-returns-2
-returns-2 c =
-    let k = c .before .before .before .before in
-    fills-yes _ _ _ _ (done-fine _ _ (k .enum-told .given .1) (k .before .before .judge-operands .ensures)) (c .before .before .sub .ensures)
+returns-2 c = fills-done _ _ _ _ _ (c .before .before .before .before .enum-told .given .1) (c .before .before .before .before .before .before .judge-operands .ensures) (c .before .before .sub .ensures)
 
 pub sub-spec : {M : Type 1} → statement M
 sub-spec = tie.close (tie.spec (λ c κs. search needs) (λ c. search needs) (λ c. search needs) returns sub-requires (λ c. search needs) returns-2)
