@@ -1,16 +1,17 @@
 -- What a call of each shape may count on once nothing is wrong with its arguments: what its worker requires. Assumes nothing.
 use mathlib.Core.Bool.{true}
-use mathlib.Core.Path.{_≡_}
+use mathlib.Core.Path.{_≡_, ap}
 use mathlib.Core.List.{List, [], _∷_}
 use Prim.Native.Nat.{ℕ, _<_}
 use lib.ListN.{length}
 use borrow.Author.Tests.{eqb-true}
 use Rattle.field.specs.Field.{P, Coefficients}
-use Rattle.judge.specs.Judgement.{Arg, Told, judged, fine, value, numbers, room, at-most}
-use Rattle.judge.specs.Answers.{said, Fills}
+use Rattle.judge.specs.Judgement.{Arg, Told, gives, judged, then, fine, value, numbers, room, at-most}
+use Rattle.judge.specs.Answers.{said, told, Fills}
 use Rattle.judge.specs.declared.Answer.{Answer}
 use Rattle.judge.specs.declared.Answer.the-variants.{Done}
-use Rattle.judge.proofs.Calls.{done-fine, fills-yes}
+use Rattle.judge.specs.declared.Given.the-variants.{Value}
+use Rattle.judge.proofs.Calls.{done-fine, fills-yes, told-yes}
 use Rattle.judge.proofs.Leads.{Canonical}
 use Rattle.judge.proofs.Exactly.{Clean, exactly-0}
 
@@ -51,6 +52,11 @@ sampling-good l n given size e =
 pub digest-good : (l n given size : ℕ) → judged (at-most l given ∷ room n size ∷ []) ≡ fine → size ≡ n
 digest-good l n given size e = eqb-true size n (clean (at-most l given ∷ room n size ∷ []) e .all-fit 1)
 
--- the good end of a call that is judged t, by the answer v, and fills a buffer
+-- ---- the good end of a call that is judged t, by the answer v: it fills a buffer,
 pub fills-done : (v : Answer) (t : Told) (old new result : List ℕ) → v ≡ Done → said v ≡ t → new ≡ result → Fills t Done old new result
 fills-done v t old new result e f g = fills-yes t old new result (done-fine v t e f) g
+
+-- or gives a number
+pub told-done : (v : Answer) (t : Told) (x y : ℕ) → v ≡ Done → said v ≡ t → x ≡ y → told (Value x) ≡ then t (gives (y ∷ []))
+unfolding told
+told-done v t x y e f g = told-yes (Value x) t (gives (y ∷ [])) (done-fine v t e f) (ap (λ (z : ℕ). gives (z ∷ [])) g)
