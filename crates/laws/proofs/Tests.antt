@@ -33,6 +33,15 @@ all-at f (suc n) t k h =
     (λ l. all-at f n (both-right (f n) (all f n) t) k l)
     (le-or-lt n k)
 
+-- and the other way round
+pub all-of : (f : ℕ → Bool) (n : ℕ) → ((k : ℕ) → k < n → T (f k)) → T (all f n)
+all-of f zero h = tt
+all-of f (suc n) h = go (f n) (all f n) (h n (omega arith)) (all-of f n (λ k l. h k (omega arith)))
+  where
+    go : (b c : Bool) → T b → T c → T (both b c)
+    go true c x y = y
+    go false c x y = absurd x
+
 -- two functions that agree at 0, 1, .. , n - 1, by computing both
 pub equal-at : (f g : ℕ → ℕ) (n : ℕ) → T (all (λ k. eqb (f k) (g k)) n) → (k : ℕ) → k < n → f k ≡ g k
 equal-at f g n t k h = eqb→eq (f k) (g k) (all-at (λ k. eqb (f k) (g k)) n t k h)

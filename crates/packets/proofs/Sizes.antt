@@ -1,0 +1,80 @@
+-- Keys and packets have the sizes of document 01, with canonical coefficients. Assumes nothing.
+use mathlib.Core.Path.{_≡_, sym, ap, _∙_, subst}
+use mathlib.Core.List.{List, [], _∷_, _++_}
+use mathlib.Core.Logic.{⊎-elim}
+use Prim.Native.Nat.{ℕ, zero, suc, _+_, _*_, _≤_, _<_}
+use native.Mathlib.Omega.{arith}
+use lib.Dec.{lit<}
+use lib.ListN.{length, getD, take, drop, length-append, length-drop}
+use lib.Seq.{length-take-le}
+use Rattle.laws.specs.Lists.{Below}
+use Rattle.laws.proofs.Lists.{each-append, each-take, each-drop}
+use Rattle.field.specs.Field.{P, Coefficients}
+use Rattle.ring.specs.Matrices.{cell}
+use Rattle.ring.proofs.Cells.{cell-canonical}
+use Rattle.ring.proofs.Products.{plus-canonical}
+use Rattle.lanes.proofs.Samplers.{uniforms-canonical, shorts-canonical}
+use Rattle.hash.specs.Fips202.{shake256, sha3-256}
+use Rattle.packets.specs.Packets.{Bytes, part, seed-of, PublicKey, G, first, second, ga-of, public-key, bg-of, bga-m-of, sealing, enc, payload, secret-key}
+
+-- ---- lists below a bound, joined and cut
+pub append-below : (b m n : ℕ) (s t : List ℕ) → 0 < b → Below b m s → Below b n t → Below b (m + n) (s ++ t)
+append-below b m n s t pos hs ht = record {
+  size = length-append s t ∙ (λ i. hs .size i + ht .size i);
+  each = each-append b pos s t (hs .each) (ht .each);
+}
+
+pub part-below : (b k n m : ℕ) (l : List ℕ) → 0 < b → k + n ≤ m → Below b m l → Below b n (part k n l)
+part-below b k n m l pos h hl = record {
+  size = length-take-le n (drop k l) (omega (arith, length-drop k l, hl .size));
+  each = each-take b pos n (drop k l) (each-drop b pos k l (hl .each));
+}
+
+pub take-below : (b n m : ℕ) (l : List ℕ) → 0 < b → n ≤ m → Below b m l → Below b n (take n l)
+take-below b n m l pos h hl = record {
+  size = length-take-le n l (omega (arith, hl .size));
+  each = each-take b pos n l (hl .each);
+}
+
+-- ---- keys and packets
+pub G-canonical : (seed : List ℕ) → Coefficients 1024 (G seed)
+unfolding G
+G-canonical seed = uniforms-canonical 1024 (shake256 seed 9216)
+
+pub G-cell : (seed : List ℕ) (i : ℕ) → Coefficients 64 (cell (G seed) i)
+G-cell seed = cell-canonical (G seed) (G-canonical seed .each)
+
+module _ (count : ℕ → ℕ) where
+  pub first-canonical : (k : List ℕ) → Coefficients 256 (first count k)
+  unfolding first
+  first-canonical k = shorts-canonical count 256 (take 2048 (shake256 k 4096))
+
+  pub second-canonical : (k : List ℕ) → Coefficients 256 (second count k)
+  unfolding second
+  second-canonical k = shorts-canonical count 256 (part 2048 2048 (shake256 k 4096))
+
+  pub first-cell : (k : List ℕ) (i : ℕ) → Coefficients 64 (cell (first count k) i)
+  first-cell k = cell-canonical (first count k) (first-canonical k .each)
+
+  pub second-cell : (k : List ℕ) (i : ℕ) → Coefficients 64 (cell (second count k) i)
+  second-cell k = cell-canonical (second count k) (second-canonical k .each)
+
+  pub ga-canonical : (g k : List ℕ) → Coefficients 256 (ga-of count g k)
+  unfolding ga-of
+  ga-canonical g k = plus-canonical 256 _ _
+
+  pub public-canonical : (sk : List ℕ) → Coefficients 256 (public-key count sk .ga)
+  unfolding public-key
+  public-canonical sk = ga-canonical _ _
+
+  pub bg-canonical : (g m : List ℕ) → Coefficients 256 (bg-of count g m)
+  unfolding bg-of
+  bg-canonical g m = plus-canonical 256 _ _
+
+  pub bga-m-canonical : (ga m : List ℕ) → Coefficients 64 (bga-m-of count ga m)
+  unfolding bga-m-of
+  bga-m-canonical ga m = plus-canonical 64 _ _
+
+  pub sealing-canonical : (pk : PublicKey) (m : List ℕ) → Coefficients 320 (sealing count pk m)
+  unfolding sealing
+  sealing-canonical pk m = append-below P 256 64 _ _ (lit< tt) (bg-canonical (G (pk .seed)) m) (bga-m-canonical (pk .ga) m)

@@ -1,0 +1,4 @@
+-- Document 01, "Keys and packets" and "Layouts", and demand 3 about them.
+pub mod Packets
+pub mod Layout
+pub mod Demand3
