@@ -72,11 +72,11 @@ pub fn neg(a: u64) -> Given
     Given::Value(field::sub_mod_p(0, a))
 }
 
-// Refusal 2 for p or more, then refusal 4 for 0.
+// Refusal 4 for 0, which has none.
 pub fn inverse(a: u64) -> Given
     ensures { λ r. ⌜ told r ≡ then (judged (field-inverse a)) (inverse-told a) ⌝ }
 {
-    let v = calls::judge_value(a);
+    let v = calls::judge_value(a); // p is refused here, by number 2, and only then 0 by number 4
     if let Answer::Refused(r) = v {
         return Given::NotGiven(r);
     }
