@@ -7,7 +7,7 @@ use Rattle.calls.proofs.judge_bytes.Tie as tie
 
 returns : tie.Need-returns
 unfolding judged each sized looked then pick said
-returns c = cc
+returns c = rw (c .sized .ensures)
 
 pub judge-bytes-spec : {M : Type 1} → statement M
 judge-bytes-spec = tie.close (tie.spec (λ c κs. search needs) returns)

@@ -7,7 +7,7 @@ use Rattle.calls.proofs.judge_reading.Tie as tie
 
 returns : tie.Need-returns
 unfolding judged each sized looked then pick said
-returns c = cc
+returns c = rw (c .numbers .ensures, c .before .sized2 .ensures, c .before .before .sized .ensures)
 
 pub judge-reading-spec : {M : Type 1} → statement M
 judge-reading-spec = tie.close (tie.spec (λ c κs. search needs) (λ c κs. search needs) (λ c κs. search needs) returns)

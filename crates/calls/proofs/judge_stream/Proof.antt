@@ -7,7 +7,7 @@ use Rattle.calls.proofs.judge_stream.Tie as tie
 
 returns : tie.Need-returns
 unfolding judged each sized looked then pick said
-returns c = cc
+returns c = rw (c .sized2 .ensures, c .before .sized .ensures)
 
 pub judge-stream-spec : {M : Type 1} → statement M
 judge-stream-spec = tie.close (tie.spec (λ c κs. search needs) (λ c κs. search needs) returns)

@@ -7,7 +7,7 @@ use Rattle.calls.proofs.judge_value.Tie as tie
 
 returns : tie.Need-returns
 unfolding judged each sized looked then pick said
-returns c = cc
+returns c = rw (c .value .ensures)
 
 pub judge-value-spec : {M : Type 1} → statement M
 judge-value-spec = tie.close (tie.spec (λ c κs. search needs) returns)

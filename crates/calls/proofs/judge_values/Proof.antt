@@ -7,7 +7,7 @@ use Rattle.calls.proofs.judge_values.Tie as tie
 
 returns : tie.Need-returns
 unfolding judged each sized looked then pick said
-returns c = cc
+returns c = rw (c .value2 .ensures, c .before .value .ensures)
 
 pub judge-values-spec : {M : Type 1} → statement M
 judge-values-spec = tie.close (tie.spec (λ c κs. search needs) (λ c κs. search needs) returns)
