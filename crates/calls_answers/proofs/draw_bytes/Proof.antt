@@ -1,3 +1,4 @@
+-- `draw_bytes` is safe and ends; its loop goes over the slice and keeps its length. Assumes nothing.
 use borrow.Author.Needs.{needs}
 use Prim.Native.Nat.{_-_, _≤_}
 use mathlib.Core.Path.{_≡_}

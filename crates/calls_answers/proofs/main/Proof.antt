@@ -1,3 +1,4 @@
+-- `main` ends: it counts what was asked. Assumes nothing.
 use borrow.Author.Needs.{needs}
 use Prim.Native.Nat.{_-_, _≤_}
 use Rattle.calls_answers.proofs.main.Statement.{statement}

@@ -1,3 +1,4 @@
+-- `print_bytes` is safe and ends; its loop goes over the bytes. Assumes nothing.
 use borrow.Author.Needs.{needs}
 use Prim.Native.Nat.{_-_, _≤_}
 use mathlib.Core.Path.{_≡_}

@@ -1,3 +1,4 @@
+-- `same_numbers` is safe and ends; its loop goes over both slices. Assumes nothing.
 use borrow.Author.Needs.{needs}
 use Prim.Native.Nat.{_-_, _≤_}
 use lib.ListN.{length}

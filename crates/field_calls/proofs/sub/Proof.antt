@@ -1,6 +1,5 @@
 -- `sub` answers as it is judged, and gives the difference where nothing is wrong. Assumes nothing.
 use borrow.Author.Needs.{needs}
-use native.Mathlib.Nat.{le-of-lt}
 use Rattle.judge.proofs.Calls.{done-fine, told-no}
 use Rattle.calls.proofs.Shapes.{values-good, told-done}
 use Rattle.field_calls.proofs.sub.Statement.{statement}
@@ -12,7 +11,7 @@ returns c = told-no _ _ _ _ (c .before .v .given .1) (c .before .before .before 
 sub-mod-p-requires : tie.Need-sub-mod-p-requires
 sub-mod-p-requires c κs =
     let good = values-good _ _ (done-fine _ _ (c .enum-told .given .1) (c .before .before .judge-values .ensures)) in
-    (good .0, le-of-lt (good .1))
+    search needs
 
 returns-2 : tie.Need-returns-2
 returns-2 c = told-done _ _ _ _ (c .before .enum-told .given .1) (c .before .before .before .judge-values .ensures) (c .sub-mod-p .ensures .0)
