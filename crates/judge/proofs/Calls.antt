@@ -102,3 +102,21 @@ said-one v w e = sym (answer-back v) ∙ ap answer-of e ∙ answer-back w
 -- two answers that a contract allows are the same, and so are the buffers
 pub fills-one : (t : Told) (v w : Answer) (old new new′ result : List ℕ) → Fills t v old new result → Fills t w old new′ result → (v ≡ w) × (new ≡ new′)
 fills-one t v w old new new′ result f g = (said-one v w (f .answer ∙ sym (g .answer)), f .buffer ∙ sym (g .buffer))
+
+-- the same for calls that give a number
+given-from : Answer → Given
+given-from Done = Value 0
+given-from (Refused r) = NotGiven r
+
+given-of : Told → Given
+given-of (gives []) = Value 0
+given-of (gives (x ∷ xs)) = Value x
+given-of (no r) = given-from (answer-of (no r))
+
+given-back : (g : Given) → given-of (told g) ≡ g
+unfolding given-of given-from told said
+given-back (Value x) = refl
+given-back (NotGiven r) = ap given-from (answer-back (Refused r))
+
+pub told-one : (g h : Given) → told g ≡ told h → g ≡ h
+told-one g h e = sym (given-back g) ∙ ap given-of e ∙ given-back h

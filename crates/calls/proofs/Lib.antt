@@ -1,0 +1,3 @@
+-- Laws of the public calls' shapes.
+pub mod Shapes
+pub mod Inverses

@@ -1,0 +1,13 @@
+-- `judge_sampling` judges bytes and a buffer as the document does: its steps are those of `judged`. Assumes nothing.
+use borrow.Author.Needs.{needs}
+use Rattle.judge.specs.Judgement.{judged, each, sized, looked, then, pick}
+use Rattle.judge.specs.Answers.{said}
+use Rattle.calls.proofs.judge_sampling.Statement.{statement}
+use Rattle.calls.proofs.judge_sampling.Tie as tie
+
+returns : tie.Need-returns
+unfolding judged each sized looked then pick said
+returns c = rw (c .sized2 .ensures, c .before .sized .ensures)
+
+pub judge-sampling-spec : {M : Type 1} → statement M
+judge-sampling-spec = tie.close (tie.spec (λ c κs. search needs) (λ c κs. search needs) returns)

@@ -1,0 +1,13 @@
+-- `judge_values` judges two field values as the document does: its steps are those of `judged`. Assumes nothing.
+use borrow.Author.Needs.{needs}
+use Rattle.judge.specs.Judgement.{judged, each, sized, looked, then, pick}
+use Rattle.judge.specs.Answers.{said}
+use Rattle.calls.proofs.judge_values.Statement.{statement}
+use Rattle.calls.proofs.judge_values.Tie as tie
+
+returns : tie.Need-returns
+unfolding judged each sized looked then pick said
+returns c = rw (c .value2 .ensures, c .before .value .ensures)
+
+pub judge-values-spec : {M : Type 1} → statement M
+judge-values-spec = tie.close (tie.spec (λ c κs. search needs) (λ c κs. search needs) returns)

@@ -1,0 +1,76 @@
+-- What each public call asks of its arguments, inputs before outputs, one line a call: document 01, "When a call says no". A list of numbers
+-- stands for an argument whose coefficients must be canonical; one that is not looked into stands by its length alone. Assumes nothing.
+use mathlib.Core.List.{List, [], _∷_}
+use Prim.Native.Nat.{ℕ}
+use Rattle.judge.specs.Judgement.{Arg, value, numbers, room, at-most}
+
+-- ---- field: a value counts as a coefficient with index 0; an exponent may be any number
+abbrev pub field-value : ℕ → List Arg
+field-value x = value x ∷ []
+
+abbrev pub field-add : ℕ → ℕ → List Arg
+field-add a b = value a ∷ value b ∷ []
+
+abbrev pub field-sub : ℕ → ℕ → List Arg
+field-sub a b = value a ∷ value b ∷ []
+
+abbrev pub field-mul : ℕ → ℕ → List Arg
+field-mul a b = value a ∷ value b ∷ []
+
+abbrev pub field-neg : ℕ → List Arg
+field-neg a = value a ∷ []
+
+abbrev pub field-inverse : ℕ → List Arg
+field-inverse a = value a ∷ []
+
+abbrev pub field-mod-pow : ℕ → List Arg
+field-mod-pow a = value a ∷ []
+
+-- ---- ring: an element is 64 numbers; the transforms work in place
+abbrev pub coset-ntt-noswap-64 : List ℕ → List Arg
+coset-ntt-noswap-64 array = numbers 64 array ∷ []
+
+abbrev pub coset-intt-noswap-64 : List ℕ → List Arg
+coset-intt-noswap-64 array = numbers 64 array ∷ []
+
+abbrev pub ring-add : List ℕ → List ℕ → ℕ → List Arg
+ring-add lhs rhs out = numbers 64 lhs ∷ numbers 64 rhs ∷ room 64 out ∷ []
+
+abbrev pub ring-sub : List ℕ → List ℕ → ℕ → List Arg
+ring-sub lhs rhs out = numbers 64 lhs ∷ numbers 64 rhs ∷ room 64 out ∷ []
+
+abbrev pub ring-mul : List ℕ → List ℕ → ℕ → List Arg
+ring-mul lhs rhs out = numbers 64 lhs ∷ numbers 64 rhs ∷ room 64 out ∷ []
+
+-- ---- matrix: 64 numbers for each ring element
+abbrev pub matrix-times-column : List ℕ → List ℕ → ℕ → List Arg
+matrix-times-column lhs rhs out = numbers 1024 lhs ∷ numbers 256 rhs ∷ room 256 out ∷ []
+
+abbrev pub row-times-matrix : List ℕ → List ℕ → ℕ → List Arg
+row-times-matrix lhs rhs out = numbers 256 lhs ∷ numbers 1024 rhs ∷ room 256 out ∷ []
+
+abbrev pub row-times-column : List ℕ → List ℕ → ℕ → List Arg
+row-times-column lhs rhs out = numbers 256 lhs ∷ numbers 256 rhs ∷ room 64 out ∷ []
+
+-- ---- samplers and message lanes
+abbrev pub sample-short-bfield-element : ℕ → List Arg
+sample-short-bfield-element randomness = room 8 randomness ∷ []
+
+abbrev pub sample-short : ℕ → ℕ → List Arg
+sample-short randomness out = room 512 randomness ∷ room 64 out ∷ []
+
+abbrev pub sample-uniform : ℕ → ℕ → List Arg
+sample-uniform randomness out = room 576 randomness ∷ room 64 out ∷ []
+
+abbrev pub embed-msg : ℕ → ℕ → List Arg
+embed-msg msg out = room 32 msg ∷ room 64 out ∷ []
+
+abbrev pub extract-msg : List ℕ → ℕ → List Arg
+extract-msg embedding out = numbers 64 embedding ∷ room 32 out ∷ []
+
+-- ---- hashes: a message fits one block
+abbrev pub shake256 : ℕ → ℕ → List Arg
+shake256 message output = at-most 135 message ∷ at-most 9216 output ∷ []
+
+abbrev pub sha3-256 : ℕ → ℕ → List Arg
+sha3-256 message output = at-most 135 message ∷ room 32 output ∷ []

@@ -1,0 +1,19 @@
+-- `draw_coefficients` is safe and ends; its loop goes over the slice and keeps its length. Assumes nothing.
+use borrow.Author.Needs.{needs}
+use Prim.Native.Nat.{_-_, _≤_}
+use mathlib.Core.Path.{_≡_}
+use lib.ListN.{length}
+use Rattle.calls_answers.proofs.draw_coefficients.Statement.{statement}
+use Rattle.calls_answers.proofs.draw_coefficients.Tie as tie
+
+abbrev Inv-loop : tie.InvT-loop
+Inv-loop s₀ seed x₀ i₀ i-end s x i = (i ≤ i-end) × (i-end ≡ length s₀) × (length s ≡ length s₀)
+
+abbrev μ-loop : tie.MeasureT-loop
+μ-loop s₀ seed x₀ i₀ i-end s x i = i-end - i
+
+pub draw-coefficients-spec : {M : Type 1} → statement M
+draw-coefficients-spec =
+    tie.close (tie.spec Inv-loop μ-loop (λ c. search needs) (λ c κs. search needs) (λ c. search needs)
+    (λ c. search needs) (λ c. search needs) (λ c. search needs) (λ c. search needs) (λ c. search needs)
+    (λ c. search needs))
