@@ -274,3 +274,65 @@ fn openings(count: usize, random: &mut Random) -> Vec<Vec<u64>> {
     };
     (0..count.max(WAYS.len())).map(opening).collect()
 }
+
+#[cfg(test)]
+mod tests {
+    use sha3::Shake256;
+    use sha3::digest::{ExtendableOutput, Update};
+    use twenty_first::math::lattice::{ModuleElement, extract_msg};
+
+    use super::*;
+
+    fn module<const N: usize>(coefficients: &[u64]) -> ModuleElement<N> {
+        let bytes: Vec<u8> = coefficients.iter().flat_map(|n| n.to_le_bytes()).collect();
+        bincode::deserialize(&bytes).unwrap()
+    }
+
+    /// The first half of `dec`, as published: the payload that is read before anything is compared.
+    fn payload(key: &[u64], packet: &[u64]) -> [u8; 32] {
+        let mut drawn = [0; 4096];
+        let mut hasher = Shake256::default();
+        hasher.update(&bytes::<32>(&key[..4]));
+        hasher.finalize_xof_into(&mut drawn);
+        let a = ModuleElement::<4>::sample_short(&drawn[..2048]).ntt();
+        let bg = module::<4>(&packet[..256]);
+        let bga = ModuleElement::<3>::multiply_hadamard::<1, 4, 1, 4, 4, 1>(bg, a);
+        let message = (module::<1>(&packet[256..]) - bga).intt();
+        let message = bincode::deserialize(&bincode::serialize(&message).unwrap()).unwrap();
+        extract_msg(message)
+    }
+
+    /// A shift changes so many coefficients, the right payload is still read, and the packet stays closed.
+    fn shifted(shift: fn(&mut Delivery), width: usize) {
+        let mut random = Random::new(1, "test");
+        for _ in 0..50 {
+            let (secret, public) = keygen(bytes(&four(&mut random)));
+            let (_, sealed) = enc(public, bytes(&four(&mut random)));
+            let sealed = coefficients(sealed);
+            let key = secret_numbers(&secret);
+            let mut delivery = Delivery {
+                public,
+                key: key.clone(),
+                packet: sealed.clone(),
+                random: &mut random,
+            };
+            shift(&mut delivery);
+            let changed = delivery.packet;
+            let places = sealed.iter().zip(&changed).filter(|(a, b)| a != b);
+            assert_eq!(places.count(), width);
+            assert_eq!(payload(&key, &changed), payload(&key, &sealed));
+            assert!(dec(secret, packet(&sealed)).is_some());
+            assert!(dec(secret, packet(&changed)).is_none());
+        }
+    }
+
+    #[test]
+    fn shifted_messages_still_extract() {
+        shifted(|d| d.shift_message(), 8);
+    }
+
+    #[test]
+    fn shifted_masks_still_extract() {
+        shifted(|d| d.shift_mask(), 16);
+    }
+}

@@ -79,18 +79,14 @@ fn elements(count: usize, random: &mut Random) -> Vec<Vec<u64>> {
 fn uniform_edges() -> Vec<[u8; 9]> {
     let top = 1i128 << 72;
     let multiples = (0..=256).map(|k| k * i128::from(P));
-    let near = multiples
-        .chain([top])
-        .flat_map(|m| (-2..=2).map(move |d| m + d));
+    let near = multiples.chain([top]).flat_map(|m| (-2..=2).map(move |d| m + d));
     let nine = |n: i128| n.to_be_bytes()[7..].try_into().unwrap();
     near.filter(|n| (0..top).contains(n)).map(nine).collect()
 }
 
 fn uniforms(count: usize, random: &mut Random) -> Vec<Vec<u64>> {
     let edges = uniform_edges();
-    let drawn = lines(&edges, 64)
-        .into_iter()
-        .map(|line| packed(&line.concat()));
+    let drawn = lines(&edges, 64).into_iter().map(|line| packed(&line.concat()));
     edges_then_draws(drawn.collect(), count, || many(72, || eight_bytes(random)))
 }
 
@@ -98,10 +94,7 @@ fn uniforms(count: usize, random: &mut Random) -> Vec<Vec<u64>> {
 fn payloads(count: usize, random: &mut Random) -> Vec<Vec<u64>> {
     let every: Vec<u8> = (0..=255).collect();
     let same = [0x00, 0x10, 0x55, 0xaa, 0xff].map(|byte| vec![byte; 32]);
-    let edges = lines(&every, 32)
-        .into_iter()
-        .chain(same)
-        .map(|line| packed(&line));
+    let edges = lines(&every, 32).into_iter().chain(same).map(|line| packed(&line));
     edges_then_draws(edges.collect(), count, || many(4, || eight_bytes(random)))
 }
 
@@ -109,17 +102,10 @@ fn payloads(count: usize, random: &mut Random) -> Vec<Vec<u64>> {
 fn embeddings(count: usize, random: &mut Random) -> Vec<Vec<u64>> {
     const CHUNKS: [u64; 9] = [0, 1, 16383, 16384, 16385, 49151, 49152, 49153, 65535];
     let turned = placed([1, 65535, 49152, 65534]);
-    let chunks = CHUNKS
-        .iter()
-        .flat_map(|low| CHUNKS.map(|high| placed([*low, high, *low, high])));
-    let values: Vec<u64> = chunks
-        .chain([turned, 0, P - 1])
-        .filter(|v| *v < P)
-        .collect();
+    let chunks = CHUNKS.iter().flat_map(|low| CHUNKS.map(|high| placed([*low, high, *low, high])));
+    let values: Vec<u64> = chunks.chain([turned, 0, P - 1]).filter(|v| *v < P).collect();
     let mut edges = lines(&values, 64);
-    let every: Vec<u64> = (0..4)
-        .flat_map(|place| every_chunk(place, random))
-        .collect();
+    let every: Vec<u64> = (0..4).flat_map(|place| every_chunk(place, random)).collect();
     if edges.len() + every.len() / 64 <= count {
         edges.extend(lines(&every, 64));
     }
@@ -140,10 +126,7 @@ fn every_chunk(place: usize, random: &mut Random) -> Vec<u64> {
 }
 
 fn placed(chunks: [u64; 4]) -> u64 {
-    chunks
-        .iter()
-        .rev()
-        .fold(0, |value, chunk| value << 16 | chunk)
+    chunks.iter().rev().fold(0, |value, chunk| value << 16 | chunk)
 }
 
 /// Half of the draws are spread evenly, a quarter has bytes 0x00 and 0xff only, a quarter few bits.
