@@ -12,6 +12,8 @@ const MOST: u64 = 100_000_000;
 
 const P: u64 = 0xffff_ffff_0000_0001;
 
+const TOP: u64 = 0xffff_ffff_ffff_ffff;
+
 const FNEW: u64 = 0x666e_6577;
 
 const FVAL: u64 = 0x6676_616c;
@@ -117,19 +119,14 @@ fn draw(x: u64) -> u64 {
     b ^ (b << 17)
 }
 
-fn draw_coefficients(s: &mut [u64], seed: u64) {
+// Numbers below `below`: p for coefficients, TOP for a buffer that may hold anything.
+fn draw_numbers(s: &mut [u64], seed: u64, below: u64)
+    requires { ⌜ 0 < below ⌝ }
+{
     let mut x = seed;
     for i in 0..s.len() {
         x = draw(x);
-        s[i] = x % P;
-    }
-}
-
-fn draw_numbers(s: &mut [u64], seed: u64) {
-    let mut x = seed;
-    for i in 0..s.len() {
-        x = draw(x);
-        s[i] = x;
+        s[i] = x % below;
     }
 }
 
@@ -162,8 +159,9 @@ fn amend(line: &[u8; 119], argument: u64, s: &mut [u64]) {
     );
 }
 
+// An argument of coefficients, with the places that the question sets.
 fn draw_operand(line: &[u8; 119], argument: u64, seed: u64, s: &mut [u64]) {
-    draw_coefficients(s, seed);
+    draw_numbers(s, seed, P);
     amend(line, argument, s);
 }
 
@@ -352,8 +350,8 @@ fn ask_operands(
 ) {
     draw_operand(line, 1, part(line, 10, 26), lhs);
     draw_operand(line, 2, part(line, 32, 48), rhs);
-    draw_numbers(out, part(line, 54, 70));
-    draw_numbers(before, part(line, 54, 70));
+    draw_numbers(out, part(line, 54, 70), TOP);
+    draw_numbers(before, part(line, 54, 70), TOP);
     let answer = operands_call(call, lhs, rhs, out);
     tell_numbers(answer, before, out);
 }
@@ -395,8 +393,8 @@ fn ask_sampling(
     before: &mut [u64],
 ) {
     draw_bytes(bytes, part(line, 10, 26));
-    draw_numbers(out, part(line, 32, 48));
-    draw_numbers(before, part(line, 32, 48));
+    draw_numbers(out, part(line, 32, 48), TOP);
+    draw_numbers(before, part(line, 32, 48), TOP);
     let answer = sampling_call(call, bytes, out);
     tell_numbers(answer, before, out);
 }

@@ -9,7 +9,9 @@ returns : tie.Need-returns
 returns c = told-no _ _ _ _ (c .before .v .given .1) (c .before .before .before .judge-values .ensures)
 
 add-mod-p-requires : tie.Need-add-mod-p-requires
-add-mod-p-requires c κs = values-good _ _ (done-fine _ _ (c .enum-told .given .1) (c .before .before .judge-values .ensures))
+add-mod-p-requires c κs =
+    let good = values-good _ _ (done-fine _ _ (c .enum-told .given .1) (c .before .before .judge-values .ensures)) in
+    search needs
 
 returns-2 : tie.Need-returns-2
 returns-2 c = told-done _ _ _ _ (c .before .enum-told .given .1) (c .before .before .before .judge-values .ensures) (c .add-mod-p .ensures .0)
