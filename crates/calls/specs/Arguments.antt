@@ -2,7 +2,7 @@
 -- stands for an argument whose coefficients must be canonical; one that is not looked into stands by its length alone. Assumes nothing.
 use mathlib.Core.List.{List, [], _∷_}
 use Prim.Native.Nat.{ℕ}
-use Rattle.judge.specs.Judgement.{Arg, value, numbers, room, at-most}
+use Rattle.judge.specs.Judgement.{Arg, value, numbers, packed, room, at-most}
 
 -- ---- field: a value counts as a coefficient with index 0; an exponent may be any number
 abbrev pub field-value : ℕ → List Arg
@@ -74,3 +74,22 @@ shake256 message output = at-most 135 message ∷ at-most 9216 output ∷ []
 
 abbrev pub sha3-256 : ℕ → ℕ → List Arg
 sha3-256 message output = at-most 135 message ∷ room 32 output ∷ []
+
+-- ---- kem: a public key is seed 32 and 256 coefficients, a ciphertext 320, in bytes or as numbers
+abbrev pub keygen : ℕ → ℕ → ℕ → List Arg
+keygen randomness secret public = room 32 randomness ∷ room 64 secret ∷ room 2080 public ∷ []
+
+abbrev pub enc : List ℕ → ℕ → ℕ → ℕ → List Arg
+enc public randomness shared ciphertext = packed 2080 32 public ∷ room 32 randomness ∷ room 32 shared ∷ room 2560 ciphertext ∷ []
+
+abbrev pub enc-numbers : List ℕ → ℕ → ℕ → ℕ → List Arg
+enc-numbers public randomness shared ciphertext = packed 2080 32 public ∷ room 32 randomness ∷ room 32 shared ∷ room 320 ciphertext ∷ []
+
+abbrev pub dec : ℕ → List ℕ → ℕ → List Arg
+dec secret ciphertext shared = room 64 secret ∷ packed 2560 0 ciphertext ∷ room 32 shared ∷ []
+
+abbrev pub dec-numbers : ℕ → List ℕ → ℕ → List Arg
+dec-numbers secret ciphertext shared = room 64 secret ∷ numbers 320 ciphertext ∷ room 32 shared ∷ []
+
+abbrev pub clear : ℕ → List Arg
+clear secret = room 64 secret ∷ []

@@ -47,3 +47,13 @@ pub mod hash {
     pub use hash_calls::sha3_256;
     pub use hash_calls::shake256;
 }
+
+// Keys and packets: crate kem_calls.
+pub mod kem {
+    pub use kem_calls::clear;
+    pub use kem_calls::dec;
+    pub use kem_calls::dec_numbers;
+    pub use kem_calls::enc;
+    pub use kem_calls::enc_numbers;
+    pub use kem_calls::keygen;
+}
