@@ -66,6 +66,10 @@ fn values(array: [BFieldElement; 64]) -> [u64; 64] {
     array.map(|e| e.value())
 }
 
+fn element(x: &[u64; 64]) -> CyclotomicRingElement {
+    x.map(BFieldElement::new).into()
+}
+
 /// The fields are private; bincode gives and takes the coefficients in order, eight little-endian bytes each.
 fn module<const N: usize>(x: &[u64]) -> ModuleElement<N> {
     bincode::deserialize(&bytes(x)).unwrap()
@@ -79,52 +83,79 @@ fn same<const N: usize>(ours: &[u64], theirs: ModuleElement<N>) {
     assert_eq!(bytes(ours), bincode::serialize(&theirs).unwrap());
 }
 
+/// Other inputs at each call: a processor learns the branches of one that comes again and again.
+struct Inputs<T> {
+    all: Vec<T>,
+    next: usize,
+}
+
+impl<T> Inputs<T> {
+    fn new(make: impl Fn(u64) -> T) -> Self {
+        Inputs { all: (0..COUNT).map(make).collect(), next: 0 }
+    }
+
+    fn next(&mut self) -> &T {
+        self.next = (self.next + 1) % self.all.len();
+        black_box(&self.all[self.next])
+    }
+}
+
+const COUNT: u64 = 64;
+
 fn main() {
-    let (mut a, b): ([u64; 64], [u64; 64]) = (numbers(1), numbers(2));
-    let (v, w): ([u64; 256], [u64; 256]) = (numbers(3), numbers(4));
-    let square: [u64; 1024] = numbers(5);
+    let (mut a, b): ([u64; 64], [u64; 64]) = (numbers(0), numbers(101));
+    let w: [u64; 256] = numbers(102);
+    let square: [u64; 1024] = numbers(103);
     let (mut one, mut four) = ([0; 64], [0; 256]);
-    let (mut rust_a, rust_b) = (a.map(BFieldElement::new), b.map(BFieldElement::new));
-    let (e, f) = (CyclotomicRingElement::from(rust_a), CyclotomicRingElement::from(rust_b));
-    let (rust_v, rust_w): (ModuleElement<4>, ModuleElement<4>) = (module(&v), module(&w));
+    let (mut rust_a, rust_b) = (a.map(BFieldElement::new), element(&b));
+    let rust_w: ModuleElement<4> = module(&w);
     let rust_square: ModuleElement<16> = module(&square);
 
-    multiply(&a, &b, &mut one);
-    assert_eq!(one, values((e * f).into()));
+    for seed in 0..COUNT {
+        let (x, v) = (numbers(seed), numbers(seed));
+        multiply(&x, &b, &mut one);
+        assert_eq!(one, values((element(&x) * rust_b).into()));
+        matrix_times_column(&square, &v, &mut four);
+        same(&four, rust_matrix_times_column(&rust_square, &module(&v)));
+        row_times_matrix(&v, &square, &mut four);
+        same(&four, rust_row_times_matrix(&module(&v), &rust_square));
+        row_times_column(&v, &w, &mut one);
+        same(&one, rust_row_times_column(&module(&v), &rust_w));
+    }
     ntt(&mut a);
     coset_ntt_noswap_64(&mut rust_a);
     assert_eq!(a, values(rust_a));
     intt(&mut a);
     coset_intt_noswap_64(&mut rust_a);
-    assert_eq!((a, a), (values(rust_a), numbers(1)));
-    matrix_times_column(&square, &v, &mut four);
-    same(&four, rust_matrix_times_column(&rust_square, &rust_v));
-    row_times_matrix(&v, &square, &mut four);
-    same(&four, rust_row_times_matrix(&rust_v, &rust_square));
-    row_times_column(&v, &w, &mut one);
-    same(&one, rust_row_times_column(&rust_v, &rust_w));
+    assert_eq!((a, a), (values(rust_a), numbers(0)));
 
+    let (mut elements, mut rust_elements) = (Inputs::new(numbers), Inputs::new(|seed| element(&numbers(seed))));
+    let (mut vectors, mut rust_vectors) = (Inputs::new(numbers), Inputs::new(|seed| module(&numbers::<256>(seed))));
     timing::head();
     timing::compare("forward transform", 20, || ntt(black_box(&mut a)), || coset_ntt_noswap_64(black_box(&mut rust_a)));
     timing::compare("inverse transform", 20, || intt(black_box(&mut a)), || coset_intt_noswap_64(black_box(&mut rust_a)));
-    let c = numbers(1);
-    timing::compare("ring multiply", 10, || multiply(black_box(&c), black_box(&b), black_box(&mut one)), || *black_box(&e) * *black_box(&f));
+    timing::compare(
+        "ring multiply",
+        20,
+        || multiply(elements.next(), black_box(&b), black_box(&mut one)),
+        || *rust_elements.next() * *black_box(&rust_b),
+    );
     timing::compare(
         "matrix times column",
-        10,
-        || matrix_times_column(black_box(&square), black_box(&v), black_box(&mut four)),
-        || rust_matrix_times_column(black_box(&rust_square), black_box(&rust_v)),
+        20,
+        || matrix_times_column(black_box(&square), vectors.next(), black_box(&mut four)),
+        || rust_matrix_times_column(black_box(&rust_square), rust_vectors.next()),
     );
     timing::compare(
         "row times matrix",
-        10,
-        || row_times_matrix(black_box(&v), black_box(&square), black_box(&mut four)),
-        || rust_row_times_matrix(black_box(&rust_v), black_box(&rust_square)),
+        20,
+        || row_times_matrix(vectors.next(), black_box(&square), black_box(&mut four)),
+        || rust_row_times_matrix(rust_vectors.next(), black_box(&rust_square)),
     );
     timing::compare(
         "row times column",
         20,
-        || row_times_column(black_box(&v), black_box(&w), black_box(&mut one)),
-        || rust_row_times_column(black_box(&rust_v), black_box(&rust_w)),
+        || row_times_column(vectors.next(), black_box(&w), black_box(&mut one)),
+        || rust_row_times_column(rust_vectors.next(), black_box(&rust_w)),
     );
 }

@@ -43,11 +43,7 @@ pub extern "C" fn bench_matrix_times_column(
 }
 
 #[no_mangle]
-pub extern "C" fn bench_row_times_matrix(
-    lhs: &[u64; 256],
-    rhs: &[u64; 1024],
-    out: &mut [u64; 256],
-)
+pub extern "C" fn bench_row_times_matrix(lhs: &[u64; 256], rhs: &[u64; 1024], out: &mut [u64; 256])
     requires { ⌜ Coefficients 256 (now lhs) × Coefficients 1024 (now rhs) ⌝ }
     ensures { λ _. ⌜ now (out .exit) ≡ matrix 1 4 4 (now (lhs .entry)) (now (rhs .entry)) ⌝ }
 {
@@ -55,11 +51,7 @@ pub extern "C" fn bench_row_times_matrix(
 }
 
 #[no_mangle]
-pub extern "C" fn bench_row_times_column(
-    lhs: &[u64; 256],
-    rhs: &[u64; 256],
-    out: &mut [u64; 64],
-)
+pub extern "C" fn bench_row_times_column(lhs: &[u64; 256], rhs: &[u64; 256], out: &mut [u64; 64])
     requires { ⌜ Coefficients 256 (now lhs) × Coefficients 256 (now rhs) ⌝ }
     ensures { λ _. ⌜ now (out .exit) ≡ matrix 1 4 1 (now (lhs .entry)) (now (rhs .entry)) ⌝ }
 {
