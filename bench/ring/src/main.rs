@@ -83,7 +83,7 @@ fn same<const N: usize>(ours: &[u64], theirs: ModuleElement<N>) {
     assert_eq!(bytes(ours), bincode::serialize(&theirs).unwrap());
 }
 
-/// Other inputs at each call: a processor learns the branches of one that comes again and again.
+/// Another input at each call, of so many that a processor cannot learn the branches that each of them takes.
 struct Inputs<T> {
     all: Vec<T>,
     next: usize,
@@ -100,12 +100,12 @@ impl<T> Inputs<T> {
     }
 }
 
-const COUNT: u64 = 64;
+const COUNT: u64 = 1024;
 
 fn main() {
-    let (mut a, b): ([u64; 64], [u64; 64]) = (numbers(0), numbers(101));
-    let w: [u64; 256] = numbers(102);
-    let square: [u64; 1024] = numbers(103);
+    let (mut a, b): ([u64; 64], [u64; 64]) = (numbers(0), numbers(COUNT));
+    let w: [u64; 256] = numbers(COUNT + 1);
+    let square: [u64; 1024] = numbers(COUNT + 2);
     let (mut one, mut four) = ([0; 64], [0; 256]);
     let (mut rust_a, rust_b) = (a.map(BFieldElement::new), element(&b));
     let rust_w: ModuleElement<4> = module(&w);
