@@ -1,8 +1,11 @@
-//! Times the proved keygen, enc and dec beside the published Rust: in turn, in one run, least and median.
+//! Times the proved keygen, enc and dec beside the published Rust.
 use std::hint::black_box;
-use std::time::Instant;
 use twenty_first::math::b_field_element::BFieldElement;
 use twenty_first::math::lattice::kem;
+
+// The path from target/bench/kem/src, where bench/kem/run builds.
+#[path = "../../../../bench/timing.rs"]
+mod timing;
 
 extern "C" {
     fn bench_keygen(randomness: *const u8, secret: *mut u8, public: *mut u8);
@@ -34,24 +37,6 @@ fn values(packet: kem::Ciphertext) -> [u64; 320] {
     <[BFieldElement; 320]>::from(packet).map(|e| e.value())
 }
 
-/// Runs both sides by turns and prints microseconds a call: least and median of each side, and the ratios.
-fn compare<A, B>(what: &str, mut ours: impl FnMut() -> A, mut theirs: impl FnMut() -> B) {
-    const TURNS: usize = 2001;
-    let (mut a, mut b) = (Vec::new(), Vec::new());
-    for _ in 0..TURNS {
-        let t = Instant::now();
-        black_box(ours());
-        a.push(t.elapsed().as_nanos() as f64 / 1000.0);
-        let t = Instant::now();
-        black_box(theirs());
-        b.push(t.elapsed().as_nanos() as f64 / 1000.0);
-    }
-    a.sort_by(f64::total_cmp);
-    b.sort_by(f64::total_cmp);
-    let (m, n) = (a[TURNS / 2], b[TURNS / 2]);
-    println!("| {what} | {:.1} | {:.1} | {:.3} | {m:.1} | {n:.1} | {:.3} |", a[0], b[0], a[0] / b[0], m / n);
-}
-
 fn main() {
     let randomness: [u8; 32] = std::array::from_fn(|i| (i * i + 7) as u8);
     let (secret, public) = keygen(&randomness);
@@ -70,10 +55,9 @@ fn main() {
     assert_eq!(dec(&secret, &damaged), None);
     assert_eq!(kem::dec(rust_secret, rust_damaged), None);
 
-    println!("| what | ours, least us | Rust | ratio | ours, median us | Rust | ratio |");
-    println!("|---|---|---|---|---|---|---|");
-    compare("keygen", || keygen(black_box(&randomness)), || kem::keygen(black_box(randomness)));
-    compare("enc", || enc(black_box(&public), &randomness), || kem::enc(black_box(rust_public), randomness));
-    compare("dec, opened", || dec(black_box(&secret), &ciphertext), || kem::dec(black_box(rust_secret), rust_ciphertext));
-    compare("dec, refused", || dec(black_box(&secret), &damaged), || kem::dec(black_box(rust_secret), rust_damaged));
+    timing::head();
+    timing::compare("keygen", 1, || keygen(black_box(&randomness)), || kem::keygen(black_box(randomness)));
+    timing::compare("enc", 1, || enc(black_box(&public), &randomness), || kem::enc(black_box(rust_public), randomness));
+    timing::compare("dec, opened", 1, || dec(black_box(&secret), &ciphertext), || kem::dec(black_box(rust_secret), rust_ciphertext));
+    timing::compare("dec, refused", 1, || dec(black_box(&secret), &damaged), || kem::dec(black_box(rust_secret), rust_damaged));
 }
