@@ -8,11 +8,12 @@ use lib.Dec.{lit<}
 use lib.ListN.{length, getD, take, drop, length-append, length-drop}
 use lib.Seq.{length-take-le}
 use Rattle.laws.specs.Lists.{Below}
-use Rattle.laws.proofs.Lists.{each-append, each-take, each-drop}
+use Rattle.laws.proofs.Lists.{getD-tab, each-append, each-take, each-drop}
 use Rattle.field.specs.Field.{P, Coefficients}
 use Rattle.ring.specs.Matrices.{cell}
 use Rattle.ring.proofs.Cells.{cell-canonical}
 use Rattle.ring.proofs.Products.{plus-canonical}
+use Rattle.lanes.specs.Samplers.{uniform, uniforms}
 use Rattle.lanes.proofs.Samplers.{uniforms-canonical, shorts-canonical}
 use Rattle.hash.specs.Fips202.{shake256, sha3-256}
 use Rattle.packets.specs.Packets.{Bytes, part, seed-of, PublicKey, G, first, second, ga-of, public-key, bg-of, bga-m-of, sealing, enc, payload, secret-key}
@@ -37,6 +38,11 @@ take-below b n m l pos h hl = record {
 }
 
 -- ---- keys and packets
+-- coefficient k of G is the draw of nine bytes from 9 k on, as it stands: not transformed again, nothing redrawn
+pub G-draw : (seed : List ℕ) (k : ℕ) → k < 1024 → getD (G seed) k 0 ≡ uniform (shake256 seed 9216) (9 * k)
+unfolding G uniforms
+G-draw seed k h = getD-tab 1024 (λ i. uniform (shake256 seed 9216) (9 * i)) 0 k h
+
 pub G-canonical : (seed : List ℕ) → Coefficients 1024 (G seed)
 unfolding G
 G-canonical seed = uniforms-canonical 1024 (shake256 seed 9216)
