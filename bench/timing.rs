@@ -30,3 +30,22 @@ pub fn compare<A, B>(what: &str, batch: usize, mut ours: impl FnMut() -> A, mut 
     let (k, l, m, n) = (a[0], b[0], a[TURNS / 2], b[TURNS / 2]);
     println!("| {what} | {k:.2} | {l:.2} | {:.3} | {m:.2} | {n:.2} | {:.3} |", k / l, m / n);
 }
+
+pub const COUNT: u64 = 1024;
+
+/// Another input at each call, of so many that a processor cannot learn the branches that each of them takes.
+pub struct Inputs<T> {
+    all: Vec<T>,
+    next: usize,
+}
+
+impl<T> Inputs<T> {
+    pub fn new(make: impl Fn(u64) -> T) -> Self {
+        Inputs { all: (0..COUNT).map(make).collect(), next: 0 }
+    }
+
+    pub fn next(&mut self) -> &T {
+        self.next = (self.next + 1) % self.all.len();
+        black_box(&self.all[self.next])
+    }
+}

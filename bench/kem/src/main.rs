@@ -6,6 +6,7 @@ use twenty_first::math::lattice::kem;
 // The path from target/bench/kem/src, where bench/kem/run builds.
 #[path = "../../../../bench/timing.rs"]
 mod timing;
+use timing::{Inputs, COUNT};
 
 extern "C" {
     fn bench_keygen(randomness: *const u8, secret: *mut u8, public: *mut u8);
@@ -37,27 +38,44 @@ fn values(packet: kem::Ciphertext) -> [u64; 320] {
     <[BFieldElement; 320]>::from(packet).map(|e| e.value())
 }
 
-fn main() {
-    let randomness: [u8; 32] = std::array::from_fn(|i| (i * i + 7) as u8);
-    let (secret, public) = keygen(&randomness);
-    let (shared, ciphertext) = enc(&public, &randomness);
-    let (rust_secret, rust_public) = kem::keygen(randomness);
-    let (rust_shared, rust_ciphertext) = kem::enc(rust_public, randomness);
-    let mut damaged = ciphertext;
-    damaged[0] = if damaged[0] == 0 { 1 } else { 0 };
-    let rust_damaged: kem::Ciphertext = damaged.map(BFieldElement::new).into();
+fn randomness(seed: u64) -> [u8; 32] {
+    std::array::from_fn(|i| (seed.wrapping_mul(6364136223846793005).wrapping_add(i as u64 * i as u64) >> (i % 8)) as u8)
+}
 
+fn damaged(mut ciphertext: [u64; 320]) -> [u64; 320] {
+    ciphertext[0] = if ciphertext[0] == 0 { 1 } else { 0 };
+    ciphertext
+}
+
+/// Every answer that is timed below, once beside the Rust's.
+fn compare_answers(seed: u64) {
+    let drawn = randomness(seed);
+    let (secret, public) = keygen(&drawn);
+    let (shared, ciphertext) = enc(&public, &drawn);
+    let (rust_secret, rust_public) = kem::keygen(drawn);
+    let (rust_shared, rust_ciphertext) = kem::enc(rust_public, drawn);
     assert_eq!(secret[..], bincode::serialize(&rust_secret).unwrap());
     assert_eq!(public[..], bincode::serialize(&rust_public).unwrap());
     assert_eq!((shared, ciphertext), (rust_shared, values(rust_ciphertext)));
-    assert_eq!(dec(&secret, &ciphertext), Some(shared));
-    assert_eq!(kem::dec(rust_secret, rust_ciphertext), Some(shared));
-    assert_eq!(dec(&secret, &damaged), None);
-    assert_eq!(kem::dec(rust_secret, rust_damaged), None);
+    assert_eq!((dec(&secret, &ciphertext), kem::dec(rust_secret, rust_ciphertext)), (Some(shared), Some(shared)));
+    let refused = damaged(ciphertext);
+    assert_eq!((dec(&secret, &refused), kem::dec(rust_secret, refused.map(BFieldElement::new).into())), (None, None));
+}
+
+fn main() {
+    (0..COUNT).for_each(compare_answers);
+    let (secret, public) = keygen(&randomness(COUNT));
+    let (rust_secret, rust_public) = kem::keygen(randomness(COUNT));
+    let packet = |seed| enc(&public, &randomness(seed)).1;
+    let rust_packet = |seed| kem::enc(rust_public, randomness(seed)).1;
+    let (mut drawn, mut rust_drawn) = (Inputs::new(randomness), Inputs::new(randomness));
+    let (mut packets, mut rust_packets) = (Inputs::new(packet), Inputs::new(rust_packet));
+    let mut refused = Inputs::new(|seed| damaged(packet(seed)));
+    let mut rust_refused = Inputs::new(|seed| kem::Ciphertext::from(damaged(packet(seed)).map(BFieldElement::new)));
 
     timing::head();
-    timing::compare("keygen", 1, || keygen(black_box(&randomness)), || kem::keygen(black_box(randomness)));
-    timing::compare("enc", 1, || enc(black_box(&public), &randomness), || kem::enc(black_box(rust_public), randomness));
-    timing::compare("dec, opened", 1, || dec(black_box(&secret), &ciphertext), || kem::dec(black_box(rust_secret), rust_ciphertext));
-    timing::compare("dec, refused", 1, || dec(black_box(&secret), &damaged), || kem::dec(black_box(rust_secret), rust_damaged));
+    timing::compare("keygen", 1, || keygen(drawn.next()), || kem::keygen(*rust_drawn.next()));
+    timing::compare("enc", 1, || enc(black_box(&public), drawn.next()), || kem::enc(black_box(rust_public), *rust_drawn.next()));
+    timing::compare("dec, opened", 1, || dec(black_box(&secret), packets.next()), || kem::dec(black_box(rust_secret), *rust_packets.next()));
+    timing::compare("dec, refused", 1, || dec(black_box(&secret), refused.next()), || kem::dec(black_box(rust_secret), *rust_refused.next()));
 }

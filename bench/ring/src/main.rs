@@ -6,6 +6,7 @@ use twenty_first::math::lattice::{coset_intt_noswap_64, coset_ntt_noswap_64, Cyc
 // The path from target/bench/ring/src, where bench/ring/run builds.
 #[path = "../../../../bench/timing.rs"]
 mod timing;
+use timing::{Inputs, COUNT};
 
 extern "C" {
     fn bench_ntt(array: *mut u64);
@@ -82,25 +83,6 @@ fn bytes(x: &[u64]) -> Vec<u8> {
 fn same<const N: usize>(ours: &[u64], theirs: ModuleElement<N>) {
     assert_eq!(bytes(ours), bincode::serialize(&theirs).unwrap());
 }
-
-/// Another input at each call, of so many that a processor cannot learn the branches that each of them takes.
-struct Inputs<T> {
-    all: Vec<T>,
-    next: usize,
-}
-
-impl<T> Inputs<T> {
-    fn new(make: impl Fn(u64) -> T) -> Self {
-        Inputs { all: (0..COUNT).map(make).collect(), next: 0 }
-    }
-
-    fn next(&mut self) -> &T {
-        self.next = (self.next + 1) % self.all.len();
-        black_box(&self.all[self.next])
-    }
-}
-
-const COUNT: u64 = 1024;
 
 fn main() {
     let (mut a, b): ([u64; 64], [u64; 64]) = (numbers(0), numbers(COUNT));
