@@ -1,0 +1,3 @@
+-- Laws of the job.
+pub mod Fronts
+pub mod Choices
