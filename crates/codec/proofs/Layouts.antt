@@ -2,11 +2,11 @@
 use mathlib.Core.Path.{_≡_, refl, sym, ap, _∙_, subst}
 use mathlib.Core.List.{List}
 use Prim.Native.Nat.{ℕ, suc, _+_, _*_, _/_, _%_, _^_, _≤_, _<_}
-use native.Mathlib.Nat.{add-zero, add-assoc, mod-lt, mod-eq-of-lt}
+use native.Mathlib.Nat.{zero-add, add-zero, add-assoc, mod-lt, mod-eq-of-lt}
 use native.Mathlib.Omega.{arith}
 use lib.Dec.{lit<}
-use lib.ListN.{length, getD, set}
-use lib.Seq.{ext-getD}
+use lib.ListN.{length, getD, set, drop}
+use lib.Seq.{ext-getD, getD-drop}
 use Rattle.laws.specs.Lists.{tab, Below}
 use Rattle.laws.specs.Digits.{digit, number}
 use Rattle.laws.proofs.Lists.{length-tab, getD-tab}
@@ -47,6 +47,12 @@ word-of-bytes w i h b =
 byte-of-word : (s : List ℕ) → ((i : ℕ) → getD s i 0 < 256) → (o k : ℕ) → k < 8 → digit 256 (word s o) k ≡ getD s (o + k) 0
 unfolding word
 byte-of-word s b o k h = digit-number 256 8 (λ j. getD s (o + j) 0) (lit< tt) (λ j g. b (o + j)) k h
+
+-- the number at the front of what is left
+pub word-drop : (l : List ℕ) (o : ℕ) → word (drop o l) 0 ≡ word l o
+unfolding word
+word-drop l o =
+    number-ext 256 8 (λ k. getD (drop o l) (0 + k) 0) (λ k. getD l (o + k) 0) (λ k h. ap (λ (n : ℕ). getD (drop o l) n 0) (zero-add k) ∙ getD-drop o l k 0)
 
 -- numbers to bytes and back
 pub words-bytes : (w : List ℕ) (n : ℕ) → Below (2 ^ 64) n w → words (bytes w) ≡ w

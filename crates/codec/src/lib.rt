@@ -1,4 +1,4 @@
-// Numbers of 64 bits as eight bytes, lowest first.
+// Numbers of 64 bits as eight bytes, lowest first, and bytes copied.
 ghost use mathlib.Core.Path.{_≡_};
 ghost use Prim.Native.Nat.{_+_, _*_, _<_, _≤_};
 ghost use lib.ListN.{length};
@@ -62,5 +62,14 @@ pub fn pack(w: &[u64], out: &mut [u8])
     while i < w.len() {
         store(out, 8 * i, w[i]);
         i += 1;
+    }
+}
+
+pub fn copy(from: &[u8], to: &mut [u8])
+    requires { ⌜ length (now from) ≡ length (now to) ⌝ }
+    ensures { λ _. ⌜ now (to .exit) ≡ now (from .entry) ⌝ }
+{
+    for i in 0..to.len() {
+        to[i] = from[i];
     }
 }

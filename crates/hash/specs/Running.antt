@@ -32,17 +32,6 @@ xor-bytes l j (b ∷ m) = xor-bytes (xor-byte l j b) (suc j) m
 unfoldable pub bytes-from : List ℕ → ℕ → ℕ → List ℕ
 bytes-from l j n = tab n (λ i. byte-of l (j + i))
 
--- the lane that eight bytes of a list make from place j on, and a list with the eight bytes of the lane x there
-unfoldable pub lane-of : List ℕ → ℕ → ℕ
-lane-of m j =
-    getD m j 0 + getD m (j + 1) 0 * 256 + getD m (j + 2) 0 * 65536 + getD m (j + 3) 0 * 16777216 + getD m (j + 4) 0 * 4294967296
-    + getD m (j + 5) 0 * 1099511627776 + getD m (j + 6) 0 * 281474976710656 + getD m (j + 7) 0 * 72057594037927936
-
-unfoldable pub lane-stored : ℕ → List ℕ → ℕ → List ℕ
-lane-stored x l j =
-    set (set (set (set (set (set (set (set l j (x % 256)) (j + 1) (x / 256 % 256)) (j + 2) (x / 65536 % 256)) (j + 3) (x / 16777216 % 256))
-    (j + 4) (x / 4294967296 % 256)) (j + 5) (x / 1099511627776 % 256)) (j + 6) (x / 281474976710656 % 256)) (j + 7) (x / 72057594037927936 % 256)
-
 -- a block that is used up is permuted
 abbrev pub turn-if : Bool → List ℕ → ℕ → Running
 turn-if true l n = run (keccak-p l) 0

@@ -4,7 +4,7 @@ ghost use mathlib.Core.Path.{_≡_};
 ghost use Prim.Native.Nat.{_+_, _%_, _<_, _≤_};
 ghost use lib.ListN.{length};
 ghost use Rattle.hash.specs.Fips202.{shake256, sha3-256};
-ghost use Rattle.hash.specs.Running.{run, byte-of, xor-byte, xor-bytes, bytes-from, lane-of, lane-stored, feed, closed, drawn, rest, hashed};
+ghost use Rattle.hash.specs.Running.{run, byte-of, xor-byte, xor-bytes, bytes-from, feed, closed, drawn, rest, hashed};
 
 fn wide(b: u8) -> u64
     ensures { λ r. ⌜ (r ≡ b) × (r < 256) ⌝ }
@@ -27,28 +27,13 @@ fn add_byte(lanes: &mut [u64; 25], at: usize, b: u8)
     lanes[at / 8] = lanes[at / 8] ^ (wide(b) << ((at % 8) * 8) as u64);
 }
 
-// The lane that eight bytes make, lowest first. LLVM makes one load of it.
-fn lane_at(bytes: &[u8], at: usize) -> u64
-    requires { ⌜ at + 8 ≤ length (now bytes) ⌝ }
-    ensures { λ r. ⌜ r ≡ lane-of (now (bytes .entry)) at ⌝ }
-{
-    wide(bytes[at])
-        + wide(bytes[at + 1]) * 256
-        + wide(bytes[at + 2]) * 65536
-        + wide(bytes[at + 3]) * 16777216
-        + wide(bytes[at + 4]) * 4294967296
-        + wide(bytes[at + 5]) * 1099511627776
-        + wide(bytes[at + 6]) * 281474976710656
-        + wide(bytes[at + 7]) * 72057594037927936
-}
-
 fn add_lanes(lanes: &mut [u64; 25], at: usize, part: &[u8])
     requires { ⌜ (at % 8 ≡ 0) × (length (now part) % 8 ≡ 0) × (at + length (now part) ≤ 200) ⌝ }
     ensures { λ _. ⌜ now (lanes .exit) ≡ xor-bytes (now (lanes .entry)) at (now (part .entry)) ⌝ }
 {
     let mut i: usize = 0;
     while i < part.len() {
-        let lane = lane_at(part, i);
+        let lane = codec::load(part, i);
         lanes[(at + i) / 8] = lanes[(at + i) / 8] ^ lane;
         i += 8;
     }
@@ -86,28 +71,13 @@ fn byte_at(lanes: &[u64; 25], at: usize) -> u8
     ((lanes[at / 8] >> ((at % 8) * 8) as u64) % 256) as u8
 }
 
-// The lane's bytes, lowest first. Eight stores side by side, which LLVM makes one.
-fn put_lane(x: u64, out: &mut [u8], at: usize)
-    requires { ⌜ at + 8 ≤ length (now out) ⌝ }
-    ensures { λ _. ⌜ now (out .exit) ≡ lane-stored x (now (out .entry)) at ⌝ }
-{
-    out[at] = (x % 256) as u8;
-    out[at + 1] = (x / 256 % 256) as u8;
-    out[at + 2] = (x / 65536 % 256) as u8;
-    out[at + 3] = (x / 16777216 % 256) as u8;
-    out[at + 4] = (x / 4294967296 % 256) as u8;
-    out[at + 5] = (x / 1099511627776 % 256) as u8;
-    out[at + 6] = (x / 281474976710656 % 256) as u8;
-    out[at + 7] = (x / 72057594037927936 % 256) as u8;
-}
-
 fn copy_lanes(lanes: &[u64; 25], at: usize, out: &mut [u8])
     requires { ⌜ (at % 8 ≡ 0) × (length (now out) % 8 ≡ 0) × (at + length (now out) ≤ 200) ⌝ }
     ensures { λ _. ⌜ now (out .exit) ≡ bytes-from (now (lanes .entry)) at (length (now (out .entry))) ⌝ }
 {
     let mut i: usize = 0;
     while i < out.len() {
-        put_lane(lanes[(at + i) / 8], out, i);
+        codec::store(out, i, lanes[(at + i) / 8]);
         i += 8;
     }
 }

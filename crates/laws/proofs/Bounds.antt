@@ -1,5 +1,5 @@
 -- Lists of n numbers, each below a bound. Assumes nothing.
-use mathlib.Core.Path.{_≡_, sym, _∙_, subst}
+use mathlib.Core.Path.{_≡_, refl, sym, _∙_, subst}
 use mathlib.Core.List.{List}
 use mathlib.Core.Logic.{⊎-elim}
 use Prim.Native.Nat.{ℕ, _+_, _≤_, _<_}
@@ -30,12 +30,16 @@ tab-below b n f pos h = record { size = length-tab n f; each = λ i. ⊎-elim (p
 pub below-prop : (b n : ℕ) (l : List ℕ) → IsProp (Below b n l)
 below-prop b n l x y = λ i. record { size = ℕ-set (length l) n (x .size) (y .size) i; each = λ k. le-prop (x .each k) (y .each k) i }
 
+-- what a loop has not come to
+pub rest-below : {b n i : ℕ} {g : ℕ → ℕ → ℕ} {old new : List ℕ} → Below b n old → Mapped g i old new → (j : ℕ) → i ≤ j → getD new j 0 < b
+rest-below {b} l m j q = subst (λ (x : ℕ). x < b) (sym (m .rest j q)) (l .each j)
+
 -- a loop that stores numbers below the bound
 pub mapped-below : {b n i : ℕ} {g : ℕ → ℕ → ℕ} {old new : List ℕ} → ((j : ℕ) → g j (getD old j 0) < b) → Below b n old → Mapped g i old new → Below b n new
 mapped-below {b} {n} {i} {g} {old} {new} h l m = record {
   size = m .same-length ∙ l .size;
   each = λ j. ⊎-elim
-      (λ q. subst (λ (x : ℕ). x < b) (sym (m .rest j q)) (l .each j))
+      (rest-below l m j)
       (λ q. subst (λ (x : ℕ). x < b) (sym (m .passed j q)) (h j))
       (le-or-lt i j);
 }
@@ -43,6 +47,10 @@ mapped-below {b} {n} {i} {g} {old} {new} h l m = record {
 -- of a list that is known to be another
 pub below-as : {b n : ℕ} {k l : List ℕ} → k ≡ l → Below b n l → Below b n k
 below-as {b} {n} e h = subst (λ (x : List ℕ). Below b n x) (sym e) h
+
+-- two lists of one size, by the length of the first
+pub below-both : {b n : ℕ} {k l : List ℕ} → Below b n k → Below b n l → Below b (length k) k × Below b (length k) l
+below-both h g = (record { size = refl; each = h .each }, record { size = g .size ∙ sym (h .size); each = g .each })
 
 -- n numbers that were stored one by one
 pub is-below : {b n : ℕ} {l : List ℕ} → 0 < b → length l ≡ n → ((j : ℕ) → j < n → getD l j 0 < b) → Below b n l

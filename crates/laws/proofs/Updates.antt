@@ -7,7 +7,7 @@ use native.Mathlib.Nat.{not-suc-le-zero}
 use native.Mathlib.Decide.{ℕ-discrete}
 use native.Mathlib.Omega.{arith}
 use lib.ListN.{length, getD, set, length-set}
-use lib.Seq.{getD-set-same, getD-set-other}
+use lib.Seq.{getD-set-same, getD-set-other, ext-getD}
 use Rattle.laws.specs.Lists.{tab}
 use Rattle.laws.proofs.Lists.{is-tab}
 
@@ -35,6 +35,10 @@ mapped-more g i v old new h e m = record {
     at j q (yes r) = subst (λ (k : ℕ). getD (set new i v) k 0 ≡ g k (getD old k 0)) (sym r) (getD-set-same new i v 0 (omega (arith, m .same-length)) ∙ e)
     at j q (no r) = getD-set-other new i j v 0 r ∙ m .passed j (omega arith)
 
+-- the same where what is stored was made from what stands there now
+pub mapped-step : (g : ℕ → ℕ → ℕ) (i v : ℕ) (old new : List ℕ) → i < length old → v ≡ g i (getD new i 0) → Mapped g i old new → Mapped g (i + 1) old (set new i v)
+mapped-step g i v old new h e m = mapped-more g i v old new h (e ∙ ap (g i) (m .rest i (omega arith))) m
+
 -- the loop's end
 pub mapped-all : (g : ℕ → ℕ → ℕ) (n : ℕ) (old new : List ℕ) → length old ≡ n → Mapped g n old new → new ≡ tab n (λ j. g j (getD old j 0))
 mapped-all g n old new e m = is-tab n (λ j. g j (getD old j 0)) 0 new (m .same-length ∙ e) (m .passed)
@@ -46,3 +50,7 @@ mapped-at {g} {old = old} {new = new} e m = subst (λ (k : ℕ). Mapped g k old 
 -- the loop's end, where its counter has come to n
 pub mapped-end : (g : ℕ → ℕ → ℕ) (n i : ℕ) (old new : List ℕ) → i ≡ n → length old ≡ n → Mapped g i old new → new ≡ tab n (λ j. g j (getD old j 0))
 mapped-end g n i old new e h m = mapped-all g n old new h (mapped-at e m)
+
+-- the end of a loop that copies
+pub copied : (from old new : List ℕ) (i : ℕ) → length from ≡ length old → i ≡ length old → Filled (λ j. getD from j 0) i old new → new ≡ from
+copied from old new i h e m = ext-getD 0 new from (m .same-length ∙ sym h) (λ j q. m .passed j (omega (arith, m .same-length)))

@@ -145,3 +145,12 @@ pub fn begin_bytes(a: &[u8]) {
     put_bytes(a);
     space();
 }
+
+// The name of the next question as one number; 0, which is no name, where the input ends before it.
+pub fn read_name() -> u64 {
+    let mut name = [0u8; 4];
+    if io::read_full(STDIN_FILENO, &mut name) < 4 {
+        return 0;
+    }
+    word(&name)
+}

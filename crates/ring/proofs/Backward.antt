@@ -19,20 +19,24 @@ use Rattle.field.specs.Field.{P, Coefficients}
 use Rattle.ring.specs.Transform.{zeta-inv, inv64, untransform}
 use Rattle.ring.specs.Stages.{sum-back, difference-back, stage-at, backward, unscaled, scaled}
 use Rattle.ring.proofs.Residue.{F, el, co, co-tab, p-pos, remainders}
+use Rattle.ring.proofs.Tables.{zeta-inv-reduced}
 use Rattle.ring.proofs.Roots.{W, U, roots, sixty-fourth}
 use Rattle.ring.proofs.Transforms.{untransform-only}
-use Rattle.ring.proofs.Blocks.{rule-low, rule-high, stage-below, block-fits, entry-fits}
+use Rattle.ring.proofs.Blocks.{rule-low, rule-high, Step, step-below, block-fits, entry-fits}
 
-backward-below : (z u w : ℕ) → (sum-back z u w < P) × (difference-back z u w < P)
-backward-below z u w = (mod-lt _ p-pos, mod-lt _ p-pos)
-
--- what a stage stores is canonical
-pub backward-at-below : (m t : ℕ) (l : List ℕ) (x : ℕ) → stage-at sum-back difference-back zeta-inv m t l x < P
-backward-at-below = stage-below P sum-back difference-back (λ z u w. backward-below z u w .0) (λ z u w. backward-below z u w .1) zeta-inv
+abbrev pub back : Step
+back = record {
+  low = sum-back;
+  high = difference-back;
+  table = zeta-inv;
+  low-below = λ z u w. mod-lt _ p-pos;
+  high-below = λ z u w. mod-lt _ p-pos;
+  reduced = zeta-inv-reduced;
+}
 
 pub backward-canonical : (m t : ℕ) (l : List ℕ) → Coefficients 64 (backward m t l)
 unfolding backward
-backward-canonical m t l = tab-below P 64 (stage-at sum-back difference-back zeta-inv m t l) p-pos (λ k h. backward-at-below m t l k)
+backward-canonical m t l = tab-below P 64 (stage-at sum-back difference-back zeta-inv m t l) p-pos (λ k h. step-below back m t l k)
 
 -- a butterfly over F
 el-sum : (z u w : ℕ) → el (sum-back z u w) ≡ F .add (el u) (el w)

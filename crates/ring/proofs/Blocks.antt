@@ -14,7 +14,10 @@ use lib.ListN.{length, getD, set, length-set}
 use lib.Seq.{getD-set-same, getD-set-other}
 use Rattle.laws.specs.Lists.{tab}
 use Rattle.laws.proofs.Orders.{le-or-lt}
+use Rattle.laws.proofs.Lists.{getD-tab}
 use Rattle.laws.proofs.Updates.{Filled, mapped-none, mapped-all}
+use Rattle.laws.proofs.Bounds.{mapped-below}
+use Rattle.field.specs.Field.{P, Coefficients}
 use Rattle.ring.specs.Stages.{Butterflied, stage-at}
 
 module _ (f g : ℕ → ℕ → ℕ) (s t : ℕ) where
@@ -95,7 +98,7 @@ module _ (f g : ℕ → ℕ → ℕ → ℕ) (table : ℕ → ℕ) (m t : ℕ) (
       ∙ simp (le-ltb (r + t) t (let q : t ≤ r + t = omega arith in q))
 
   -- one block more
-  pub stage-more : (i z : ℕ) (now new : List ℕ) → z ≡ table (m + i) → Filled rule (i * (t + t)) old now
+  stage-more : (i z : ℕ) (now new : List ℕ) → z ≡ table (m + i) → Filled rule (i * (t + t)) old now
       → Butterflied (f z) (g z) (i * (t + t)) t (i * (t + t) + t) now new → Filled rule ((i + 1) * (t + t)) old new
   stage-more i z now new e x b = record {
     same-length = b .same-length ∙ x .same-length;
@@ -119,11 +122,11 @@ module _ (f g : ℕ → ℕ → ℕ → ℕ) (table : ℕ → ℕ) (m t : ℕ) (
           (λ q. let e : i * (t + t) + (p - i * (t + t)) ≡ p = omega arith in subst (λ n. getD new n 0 ≡ rule n) e (lower (p - i * (t + t)) (omega arith)))
           (le-or-lt (i * (t + t) + t) p)
 
-  pub stage-none : Filled rule (0 * (t + t)) old old
+  stage-none : Filled rule (0 * (t + t)) old old
   stage-none = subst (λ n. Filled rule n old old) (let e : 0 ≡ 0 * (t + t) = omega arith in e) (mapped-none (λ j x. rule j) old)
 
   -- m blocks are the stage
-  pub stage-all : (i : ℕ) (new : List ℕ) → i ≡ m → m * (t + t) ≡ 64 → length old ≡ 64 → Filled rule (i * (t + t)) old new → new ≡ tab 64 rule
+  stage-all : (i : ℕ) (new : List ℕ) → i ≡ m → m * (t + t) ≡ 64 → length old ≡ 64 → Filled rule (i * (t + t)) old new → new ≡ tab 64 rule
   stage-all i new e size h x = mapped-all (λ j x. rule j) 64 old new h (subst (λ n. Filled rule n old new) (ap (λ k. k * (t + t)) e ∙ size) x)
 
 -- m blocks of t + t numbers are 64 numbers: block i fits, and so does its entry in the table
@@ -137,14 +140,62 @@ module _ (m t i : ℕ) (size : m * (t + t) ≡ 64) (h : i < m) where
       empty : t ≡ 0 → ⊥
       empty e = let g : m * (0 + 0) ≡ 64 = subst (λ n. m * (n + n) ≡ 64) e size in omega arith
 
--- a stage leaves canonical numbers
-pub stage-below : (b : ℕ) (f g : ℕ → ℕ → ℕ → ℕ) → ((z u w : ℕ) → f z u w < b) → ((z u w : ℕ) → g z u w < b)
-    → (table : ℕ → ℕ) (m t : ℕ) (l : List ℕ) (x : ℕ) → stage-at f g table m t l x < b
-stage-below b f g hf hg table m t l x = go (ltb (x % (t + t)) t)
+-- ---- a stage of either transform
+-- the two new numbers of a butterfly and the table of zetas, all canonical
+pub record Step : Type 0 where
+  pub low : ℕ → ℕ → ℕ → ℕ
+  pub high : ℕ → ℕ → ℕ → ℕ
+  pub table : ℕ → ℕ
+  pub low-below : (z u w : ℕ) → low z u w < P
+  pub high-below : (z u w : ℕ) → high z u w < P
+  pub reduced : (k : ℕ) → table k % P ≡ table k
+
+abbrev pub step-at : Step → ℕ → ℕ → List ℕ → ℕ → ℕ
+step-at S = stage-at (S .low) (S .high) (S .table)
+
+-- what it stores is canonical
+pub step-below : (S : Step) (m t : ℕ) (l : List ℕ) (x : ℕ) → step-at S m t l x < P
+step-below S m t l x = go (ltb (x % (t + t)) t)
   where
     go : (c : Bool) → elim c as (λ y. ℕ) [
-      | true ↦ f (table (m + x / (t + t))) (getD l x 0) (getD l (x + t) 0)
-      | false ↦ g (table (m + x / (t + t))) (getD l (x - t) 0) (getD l x 0)
-    ] < b
-    go true = hf _ _ _
-    go false = hg _ _ _
+      | true ↦ S .low (S .table (m + x / (t + t))) (getD l x 0) (getD l (x + t) 0)
+      | false ↦ S .high (S .table (m + x / (t + t))) (getD l (x - t) 0) (getD l x 0)
+    ] < P
+    go true = S .low-below _ _ _
+    go false = S .high-below _ _ _
+
+-- i of the m blocks are done
+pub record Staged (S : Step) (m t : ℕ) (old : List ℕ) (i : ℕ) (new : List ℕ) : Type 0 where
+  pub size : m * (t + t) ≡ 64
+  pub canonical : Coefficients 64 old
+  pub within : i ≤ m
+  pub done : Filled (step-at S m t old) (i * (t + t)) old new
+
+pub staged-none : {S : Step} {m t : ℕ} {old : List ℕ} → m * (t + t) ≡ 64 → Coefficients 64 old → Staged S m t old 0 old
+staged-none {S} {m} {t} {old} e c = record { size = e; canonical = c; within = omega arith; done = stage-none (S .low) (S .high) (S .table) m t old }
+
+module _ {S : Step} {m t : ℕ} {old : List ℕ} {i : ℕ} {now : List ℕ} (x : Staged S m t old i now) where
+  pub staged-canonical : Coefficients 64 now
+  staged-canonical = mapped-below (step-below S m t old) (x .canonical) (x .done)
+
+  pub staged-room : i < m → i * (t + t) + t + t ≤ 64
+  staged-room h = block-fits m t i (x .size) h
+
+  pub staged-entry : i < m → m + i < 64
+  staged-entry h = entry-fits m t i (x .size) h
+
+  -- one block more, with the zeta that stands in the table
+  pub staged-more : {zetas : List ℕ} (z : ℕ) {new : List ℕ} → i < m → zetas ≡ tab 64 (S .table) → z ≡ getD zetas (m + i) 0 % P
+      → Butterflied (S .low z) (S .high z) (i * (t + t)) t (i * (t + t) + t) now new → Staged S m t old (i + 1) new
+  staged-more {zetas} z {new} h e f b = record {
+    size = x .size;
+    canonical = x .canonical;
+    within = omega arith;
+    done = stage-more (S .low) (S .high) (S .table) m t old i z now new entry (x .done) b;
+  }
+    where
+      entry : z ≡ S .table (m + i)
+      entry = f ∙ ap (λ (l : List ℕ). getD l (m + i) 0 % P) e ∙ ap (λ (n : ℕ). n % P) (getD-tab 64 (S .table) 0 (m + i) (staged-entry h)) ∙ S .reduced (m + i)
+
+  pub staged-all : i ≡ m → (now ≡ tab 64 (step-at S m t old)) × Coefficients 64 now
+  staged-all e = (stage-all (S .low) (S .high) (S .table) m t old i now e (x .size) (x .canonical .size) (x .done), staged-canonical)

@@ -16,20 +16,24 @@ use Rattle.field.specs.Field.{P, Coefficients}
 use Rattle.ring.specs.Transform.{zeta, transform}
 use Rattle.ring.specs.Stages.{sum-of, difference-of, stage-at, forward}
 use Rattle.ring.proofs.Residue.{F, el, co, p-pos, same}
+use Rattle.ring.proofs.Tables.{zeta-reduced}
 use Rattle.ring.proofs.Roots.{W, roots, heap-even}
 use Rattle.ring.proofs.Transforms.{transform-canonical, transform-value}
-use Rattle.ring.proofs.Blocks.{rule-low, rule-high, stage-below, block-fits, entry-fits}
+use Rattle.ring.proofs.Blocks.{rule-low, rule-high, Step, step-below, block-fits, entry-fits}
 
-forward-below : (z u w : ℕ) → (sum-of z u w < P) × (difference-of z u w < P)
-forward-below z u w = (mod-lt _ p-pos, mod-lt _ p-pos)
-
--- what a stage stores is canonical
-pub forward-at-below : (m t : ℕ) (l : List ℕ) (x : ℕ) → stage-at sum-of difference-of zeta m t l x < P
-forward-at-below = stage-below P sum-of difference-of (λ z u w. forward-below z u w .0) (λ z u w. forward-below z u w .1) zeta
+abbrev pub onward : Step
+onward = record {
+  low = sum-of;
+  high = difference-of;
+  table = zeta;
+  low-below = λ z u w. mod-lt _ p-pos;
+  high-below = λ z u w. mod-lt _ p-pos;
+  reduced = zeta-reduced;
+}
 
 pub forward-canonical : (m t : ℕ) (l : List ℕ) → Coefficients 64 (forward m t l)
 unfolding forward
-forward-canonical m t l = tab-below P 64 (stage-at sum-of difference-of zeta m t l) p-pos (λ k h. forward-at-below m t l k)
+forward-canonical m t l = tab-below P 64 (stage-at sum-of difference-of zeta m t l) p-pos (λ k h. step-below onward m t l k)
 
 -- a butterfly over F
 el-sum : (z u w : ℕ) → el (sum-of z u w) ≡ F .add (el u) (F .mul (el w) (el z))

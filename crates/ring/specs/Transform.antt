@@ -31,7 +31,7 @@ transform cs = tab 64 (λ k. value (point k) cs)
 abbrev pub inv64 : ℕ
 inv64 = 18158513693329981441
 
--- coefficient j is 1/64 of the sum of output k over (place k)^j; the 128th power of every place is 1
+-- coefficient j is 1/64 of the sum of output k over (point k)^j; the 128th power of every point is 1
 unfoldable pub untransform : List ℕ → List ℕ
 untransform vs = tab 64 (λ j. inv64 * total 64 (λ k. getD vs k 0 * (point k ^ (128 - j) % P)) % P)
 

@@ -177,17 +177,24 @@ fn stage(array: &mut [u64], zetas: &[u64; 64], m: usize, t: usize)
 }
 
 // The stages are calls with constant sizes, which LLVM unrolls: a tenth less time than one loop over them takes.
+fn stages(array: &mut [u64], zetas: &[u64; 64])
+    requires { ⌜ Coefficients 64 (now array) × (now zetas ≡ tab 64 zeta) ⌝ }
+    ensures { λ r. ⌜ now (array .exit) ≡ transform (now (array .entry)) ⌝ }
+{
+    stage(array, zetas, 1, 32);
+    stage(array, zetas, 2, 16);
+    stage(array, zetas, 4, 8);
+    stage(array, zetas, 8, 4);
+    stage(array, zetas, 16, 2);
+    stage(array, zetas, 32, 1);
+}
+
 pub fn coset_ntt_noswap_64(array: &mut [u64])
     requires { ⌜ Coefficients 64 (now array) ⌝ }
     ensures { λ r. ⌜ now (array .exit) ≡ transform (now (array .entry)) ⌝ }
 {
     let zetas = POWERS_OF_PSI_BITREVERSED;
-    stage(array, &zetas, 1, 32);
-    stage(array, &zetas, 2, 16);
-    stage(array, &zetas, 4, 8);
-    stage(array, &zetas, 8, 4);
-    stage(array, &zetas, 16, 2);
-    stage(array, &zetas, 32, 1);
+    stages(array, &zetas);
 }
 
 // One block of the inverse transform.
@@ -216,17 +223,16 @@ fn unstage(array: &mut [u64], zetas: &[u64; 64], h: usize, t: usize)
     }
 }
 
-fn unstages(array: &mut [u64])
-    requires { ⌜ Coefficients 64 (now array) ⌝ }
+fn unstages(array: &mut [u64], zetas: &[u64; 64])
+    requires { ⌜ Coefficients 64 (now array) × (now zetas ≡ tab 64 zeta-inv) ⌝ }
     ensures { λ r. ⌜ (now (array .exit) ≡ unscaled (now (array .entry))) × Coefficients 64 (now (array .exit)) ⌝ }
 {
-    let zetas = POWERS_OF_PSI_INV_BITREVERSED;
-    unstage(array, &zetas, 32, 1);
-    unstage(array, &zetas, 16, 2);
-    unstage(array, &zetas, 8, 4);
-    unstage(array, &zetas, 4, 8);
-    unstage(array, &zetas, 2, 16);
-    unstage(array, &zetas, 1, 32);
+    unstage(array, zetas, 32, 1);
+    unstage(array, zetas, 16, 2);
+    unstage(array, zetas, 8, 4);
+    unstage(array, zetas, 4, 8);
+    unstage(array, zetas, 2, 16);
+    unstage(array, zetas, 1, 32);
 }
 
 fn scale(array: &mut [u64], factor: BFieldElement)
@@ -242,7 +248,8 @@ pub fn coset_intt_noswap_64(array: &mut [u64])
     requires { ⌜ Coefficients 64 (now array) ⌝ }
     ensures { λ r. ⌜ now (array .exit) ≡ untransform (now (array .entry)) ⌝ }
 {
-    unstages(array);
+    let zetas = POWERS_OF_PSI_INV_BITREVERSED;
+    unstages(array, &zetas);
     scale(array, BFieldElement::new(N_INV));
 }
 

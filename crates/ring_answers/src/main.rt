@@ -1,6 +1,5 @@
 // Answers questions on the ring, one to a line, as oracle/README.md describes the lines; the same questions are put to the Rust.
 // The file stdin holds a sample of them, and stdout what the Rust answered.
-use libc::STDIN_FILENO;
 ghost use Rattle.field.specs.Field.{Coefficients};
 
 // No run has more questions.
@@ -100,11 +99,7 @@ fn answer_single() {
 
 // Reads and answers one question; false where there is none left, or an unknown one.
 fn answer_next() -> bool {
-    let mut name = [0u8; 4];
-    if io::read_full(STDIN_FILENO, &mut name) < 4 {
-        return false;
-    }
-    let op = lines::word(&name);
+    let op = lines::read_name();
     if op == NTT || op == INTT {
         answer_transform(op);
     } else if op == RADD || op == RSUB || op == RMUL || op == HADA {

@@ -151,7 +151,7 @@ fn regenerates(g: &[u64], ga: &[u64], payload: &[u8], ciphertext: &[u64]) -> boo
     equal(&again, ciphertext)
 }
 
-// The matrix of a seed, and of a key its transformed vector a and its ga.
+// Of a key its transformed vector a, and its ga under the matrix.
 fn derive_key(key: &[u8], g: &[u64], a: &mut [u64], ga: &mut [u64])
     requires { ⌜ Coefficients 1024 (now g) × (length (now a) ≡ 256) × (length (now ga) ≡ 256) ⌝ }
     ensures { λ _. ⌜ (now (a .exit) ≡ transforms 4 (first ones (now (key .entry)))) × (now (ga .exit) ≡ ga-of ones (now (g .entry)) (now (key .entry))) ⌝ }
@@ -215,22 +215,13 @@ pub fn enc(public: &[u8], randomness: &[u8], shared: &mut [u8], ciphertext: &mut
     hash::sha3_256(&payload, shared);
 }
 
-fn copy(from: &[u8], to: &mut [u8])
-    requires { ⌜ length (now from) ≡ length (now to) ⌝ }
-    ensures { λ _. ⌜ now (to .exit) ≡ now (from .entry) ⌝ }
-{
-    for i in 0..to.len() {
-        to[i] = from[i];
-    }
-}
-
 // 32 bytes of SHAKE256 of the randomness and then one byte.
 fn expand(randomness: &[u8], last: u8, out: &mut [u8])
     requires { ⌜ (length (now randomness) ≡ 32) × (length (now out) ≡ 32) ⌝ }
     ensures { λ _. ⌜ now (out .exit) ≡ shake256 (now (randomness .entry) ++ (last ∷ [])) 32 ⌝ }
 {
     let mut message = [0u8; 33];
-    copy(randomness, &mut message[0..32]);
+    codec::copy(randomness, &mut message[0..32]);
     message[32] = last;
     hash::shake256(&message, out);
 }
@@ -262,7 +253,7 @@ fn put_public(secret: &[u8], public: &mut [u8])
 {
     let mut ga = [0u64; 256];
     derive_ga(secret, &mut ga);
-    copy(&secret[32..64], &mut public[0..32]);
+    codec::copy(&secret[32..64], &mut public[0..32]);
     codec::pack(&ga, &mut public[32..2080]);
 }
 

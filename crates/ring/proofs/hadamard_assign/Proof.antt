@@ -5,7 +5,7 @@ use Prim.Native.Nat.{ℕ, _*_, _-_, _≤_, _%_}
 use mathlib.Core.Path.{_∙_, ap}
 use mathlib.Core.List.{List}
 use lib.ListN.{getD}
-use Rattle.laws.proofs.Updates.{Mapped, mapped-none, mapped-more, mapped-end}
+use Rattle.laws.proofs.Updates.{Mapped, mapped-none, mapped-step, mapped-end}
 use Rattle.laws.proofs.Congruence.{mul-mod-l}
 use Rattle.field.specs.Field.{P}
 use Rattle.ring.specs.Elements.{hadamard}
@@ -28,12 +28,10 @@ loop-again : tie.Need-loop-again Inv-loop μ-loop
 loop-again c =
     let k = c .before .before .before .before .before in
     let l = k .loop in
-    let start = k .before .before .before in
-    let y = getD (start .args .rhs .now) (l .i) 0 in (
+    let y = getD (k .before .before .before .args .rhs .now) (l .i) 0 in (
       omega arith,
-      mapped-more (rule (start .args .rhs .now)) (l .i) _ (start .args .lhs .now) (l .lhs) (omega arith)
-          (c .scaled .ensures .0 ∙ ap (λ (n : ℕ). n * y % P) (c .before .before .new .ensures .number) ∙ mul-mod-l P (getD (l .lhs) (l .i) 0) y
-          ∙ ap (rule (start .args .rhs .now) (l .i)) (l .inv .1 .rest (l .i) (omega arith))) (l .inv .1),
+      mapped-step _ (l .i) _ _ (l .lhs) (omega arith)
+          (c .scaled .ensures .0 ∙ ap (λ (n : ℕ). n * y % P) (c .before .before .new .ensures .number) ∙ mul-mod-l P (getD (l .lhs) (l .i) 0) y) (l .inv .1),
     )
 
 returns : tie.Need-returns Inv-loop μ-loop
@@ -41,7 +39,7 @@ unfolding hadamard
 returns c =
     let l = c .before .loop in
     let start = c .before .before .before .before in
-    mapped-end (rule (start .args .rhs .now)) 64 (l .i) (start .args .lhs .now) (l .lhs) (omega arith) (start .pre .0 .size) (l .inv .1)
+    mapped-end _ 64 (l .i) _ (l .lhs) (omega arith) (start .pre .0 .size) (l .inv .1)
 
 pub hadamard-assign-spec : {M : Type 1} → statement M
 hadamard-assign-spec =

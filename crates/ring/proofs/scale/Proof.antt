@@ -1,9 +1,8 @@
 -- `scale` multiplies each of 64 numbers. Assumes nothing.
 use borrow.Author.Needs.{needs}
 use native.Mathlib.Omega.{arith}
-use Prim.Native.Nat.{ℕ, _*_, _-_, _≤_, _%_}
-use mathlib.Core.Path.{_∙_, ap}
-use Rattle.laws.proofs.Updates.{Mapped, mapped-none, mapped-more, mapped-end}
+use Prim.Native.Nat.{_*_, _-_, _≤_, _%_}
+use Rattle.laws.proofs.Updates.{Mapped, mapped-none, mapped-step, mapped-end}
 use Rattle.field.specs.Field.{P}
 use Rattle.field.specs.Element.{num}
 use Rattle.ring.specs.Stages.{scaled}
@@ -22,19 +21,14 @@ loop-holds c = (omega arith, mapped-none _ _)
 loop-again : tie.Need-loop-again Inv-loop μ-loop
 loop-again c =
     let l = c .before .before .before .loop in
-    let start = c .before .before .before .before .before in
-    let z = num (start .args .factor) in (
-      omega arith,
-      mapped-more (λ j x. z * x % P) (l .i) _ (start .args .array .now) (l .array) (omega arith)
-          (c .scaled .ensures .0 ∙ ap (λ (n : ℕ). z * n % P) (l .inv .1 .rest (l .i) (omega arith))) (l .inv .1),
-    )
+    (omega arith, mapped-step _ (l .i) _ _ (l .array) (omega arith) (c .scaled .ensures .0) (l .inv .1))
 
 returns : tie.Need-returns Inv-loop μ-loop
 unfolding scaled
 returns c =
     let l = c .before .loop in
     let start = c .before .before .before in
-    mapped-end (λ j x. num (start .args .factor) * x % P) 64 (l .i) (start .args .array .now) (l .array) (omega arith) (start .pre .0) (l .inv .1)
+    mapped-end _ 64 (l .i) _ (l .array) (omega arith) (start .pre .0) (l .inv .1)
 
 pub scale-spec : {M : Type 1} → statement M
 scale-spec =

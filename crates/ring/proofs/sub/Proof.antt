@@ -1,7 +1,7 @@
 -- `sub` is `sub_assign` on a copy. Assumes nothing.
-use mathlib.Core.Path.{refl, sym, _∙_}
+use mathlib.Core.Path.{_∙_}
 use borrow.Author.Needs.{needs}
-use Rattle.laws.proofs.Bounds.{below-as}
+use Rattle.laws.proofs.Bounds.{below-as, below-both}
 use Rattle.ring.specs.Elements.{minus}
 use Rattle.ring.proofs.sub.Statement.{statement}
 use Rattle.ring.proofs.sub.Tie as tie
@@ -10,8 +10,7 @@ sub-assign-requires : tie.Need-sub-assign-requires
 sub-assign-requires c κs =
     let k = c .before .before .before in
     let start = k .before .before .before .before .before in
-    let l = below-as (k .copy .ensures) (start .pre .0) in
-    (record { size = refl; each = l .each }, record { size = start .pre .1 .size ∙ sym (l .size); each = start .pre .1 .each })
+    below-both (below-as (k .copy .ensures) (start .pre .0)) (start .pre .1)
 
 returns : tie.Need-returns
 returns c =

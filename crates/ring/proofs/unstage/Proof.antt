@@ -2,33 +2,24 @@
 use borrow.Author.Needs.{needs}
 use native.Mathlib.Omega.{arith}
 use Prim.Native.Nat.{_+_, _*_, _-_, _≤_, _<_}
-use mathlib.Core.Path.{_≡_, _∙_}
-use Rattle.laws.proofs.Updates.{Filled}
-use Rattle.laws.proofs.Bounds.{mapped-below}
-use Rattle.field.specs.Element.{num}
-use Rattle.ring.specs.Transform.{zeta-inv}
-use Rattle.ring.specs.Stages.{sum-back, difference-back, stage-at, backward}
-use Rattle.ring.proofs.Blocks.{stage-none, stage-more, stage-all, block-fits, entry-fits}
-use Rattle.ring.proofs.Backward.{backward-at-below}
-use Rattle.ring.proofs.Tables.{zeta-inv-entry}
+use Rattle.ring.specs.Stages.{backward}
+use Rattle.ring.proofs.Blocks.{Staged, staged-none, staged-canonical, staged-room, staged-entry, staged-more, staged-all}
+use Rattle.ring.proofs.Backward.{back}
 use Rattle.ring.proofs.unstage.Statement.{statement}
 use Rattle.ring.proofs.unstage.Tie as tie
 
 abbrev Inv-loop : tie.InvT-loop
-Inv-loop array₀ zetas h t i₀ array i = (i ≤ h) × Filled (stage-at sum-back difference-back zeta-inv h t array₀) (i * (t + t)) array₀ array
+Inv-loop array₀ zetas h t i₀ array i = Staged back h t array₀ i array
 
 abbrev μ-loop : tie.MeasureT-loop
 μ-loop array₀ zetas h t i₀ array i = h - i
 
--- what block i has room for
+-- what block i has room for, and that its zeta stands in the table
 room : (c : tie.In-loop Inv-loop μ-loop) → let s = c .before .before .before .args in c .before .loop .i * (s .t + s .t) + s .t + s .t ≤ 64
-room c = let s = c .before .before .before in block-fits (s .args .h) (s .args .t) (c .before .loop .i) (s .pre .1 .1) (omega arith)
+room c = staged-room (c .before .loop .inv) (omega arith)
 
 entry : (c : tie.In-loop Inv-loop μ-loop) → c .before .before .before .args .h + c .before .loop .i < 64
-entry c = let s = c .before .before .before in entry-fits (s .args .h) (s .args .t) (c .before .loop .i) (s .pre .1 .1) (omega arith)
-
-loop-holds : tie.Need-loop-holds Inv-loop μ-loop
-loop-holds c = let a = c .before .args in (omega arith, stage-none sum-back difference-back zeta-inv (a .h) (a .t) (a .array .now))
+entry c = staged-entry (c .before .loop .inv) (omega arith)
 
 add-new : tie.Need-add-new Inv-loop μ-loop
 add-new c = omega (arith, entry c)
@@ -46,32 +37,19 @@ mul-unbutterflies : tie.Need-mul-unbutterflies Inv-loop μ-loop
 mul-unbutterflies c = omega (arith, room (c .before .before .before))
 
 unbutterflies-requires : tie.Need-unbutterflies-requires Inv-loop μ-loop
-unbutterflies-requires c κs =
-    let k = c .before .before .before in
-    let start = k .before .before .before in (
-      mapped-below (backward-at-below (start .args .h) (start .args .t) (start .args .array .now)) (start .pre .0) (k .before .loop .inv .1),
-      (room k, c .before .new .ensures .good),
-    )
+unbutterflies-requires c κs = let k = c .before .before .before in (staged-canonical (k .before .loop .inv), (room k, c .before .new .ensures .good))
 
 loop-again : tie.Need-loop-again Inv-loop μ-loop
 loop-again c =
     let k = c .before .before .before .before .before .before in
-    let l = k .before .loop in
-    let start = k .before .before .before in
-    let e : num (c .before .before .before .before .new .result) ≡ zeta-inv (start .args .h + l .i) =
-    c .before .before .before .before .new .ensures .number ∙ zeta-inv-entry (start .args .zetas .now) (start .args .h + l .i) (start .pre .1 .0) (entry k) in
-    (omega arith, stage-more sum-back difference-back zeta-inv (start .args .h) (start .args .t) (start .args .array .now) (l .i) _ (l .array) _ e (l .inv .1) (c .before .before .unbutterflies .ensures))
+    staged-more (k .before .loop .inv) _ (omega arith) (k .before .before .before .pre .1 .0) (c .before .before .before .before .new .ensures .number) (c .before .before .unbutterflies .ensures)
 
 returns : tie.Need-returns Inv-loop μ-loop
 unfolding backward
-returns c =
-    let l = c .before .loop in
-    let start = c .before .before .before in
-    let e = stage-all sum-back difference-back zeta-inv (start .args .h) (start .args .t) (start .args .array .now) (l .i) (l .array) (omega arith) (start .pre .1 .1) (start .pre .0 .size) (l .inv .1) in
-    (e, mapped-below (backward-at-below (start .args .h) (start .args .t) (start .args .array .now)) (start .pre .0) (l .inv .1))
+returns c = staged-all (c .before .loop .inv) (omega arith)
 
 pub unstage-spec : {M : Type 1} → statement M
 unstage-spec =
-    tie.close (tie.spec Inv-loop μ-loop loop-holds add-new mul-new element-copy-out-new (λ c κs. search needs)
-    add-unbutterflies mul-unbutterflies unbutterflies-requires (λ c. search needs) (λ c. search needs) loop-again
-    (λ c. search needs) returns)
+    tie.close (tie.spec Inv-loop μ-loop (λ c. staged-none (c .before .pre .1 .1) (c .before .pre .0)) add-new mul-new
+    element-copy-out-new (λ c κs. search needs) add-unbutterflies mul-unbutterflies unbutterflies-requires
+    (λ c. search needs) (λ c. search needs) loop-again (λ c. search needs) returns)
