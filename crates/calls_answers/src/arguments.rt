@@ -60,6 +60,19 @@ fn put(s: &mut [u64], argument: u64, place: Place)
     }
 }
 
+fn put_byte(s: &mut [u8], argument: u64, place: Place) {
+    let at = place.index;
+    if place.argument == argument && at < s.len() {
+        s[at] = (place.value % 256) as u8;
+    }
+}
+
+// The places of an argument of bytes.
+pub fn amend_bytes(s: &mut [u8], q: Question, argument: u64) {
+    put_byte(s, argument, q.one);
+    put_byte(s, argument, q.other);
+}
+
 // The places of an argument.
 pub fn amend(s: &mut [u64], q: Question, argument: u64)
     ensures { λ _. ⌜ length (now (s .exit)) ≡ length (now (s .entry)) ⌝ }
@@ -110,15 +123,18 @@ pub fn same_numbers(a: &[u64], b: &[u64]) -> bool {
     true
 }
 
-// As much of the whole as the part has room for.
-pub fn cut_bytes(whole: &[u8], part: &mut [u8]) {
+// Puts bytes from `at` on, as many as there is room for.
+pub fn put_bytes(s: &mut [u8], at: usize, from: &[u8])
+    requires { ⌜ at ≤ 4096 ⌝ }
+{
     let mut i = 0;
-    while i < whole.len() && i < part.len() {
-        part[i] = whole[i];
+    while i < from.len() && at + i < s.len() {
+        s[at + i] = from[i];
         i += 1;
     }
 }
 
+// As much of the whole as the part has room for.
 pub fn cut_numbers(whole: &[u64], part: &mut [u64]) {
     let mut i = 0;
     while i < whole.len() && i < part.len() {

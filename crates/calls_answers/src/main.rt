@@ -1,6 +1,7 @@
 // Answers questions on the public calls, one to a line, as tests/calls/README.md describes the lines. The file stdin holds the questions and stdout
 // what tests/calls/make, which knows nothing of this program, expects.
 mod arguments; // what an argument holds
+mod jobs; // the job call
 mod packets; // the kem's calls
 mod parts; // the calls of field, ring, lanes and hashes
 mod question; // a question, read
@@ -19,7 +20,7 @@ fn answer_next() -> bool {
         return false;
     }
     let q = question::read(lines::word(&name));
-    if !parts::answer(q) && !packets::answer(q) {
+    if !parts::answer(q) && !packets::answer(q) && !jobs::answer(q) {
         return false;
     }
     lines::end_line();

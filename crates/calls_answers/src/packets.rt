@@ -36,7 +36,7 @@ fn answer_clear(q: Question, secret: &mut [u8]) {
 }
 
 // 257 coefficients, so that a key may be lent longer than it is.
-fn fill_public(q: Question, public: &mut [u8])
+pub fn fill_public(q: Question, public: &mut [u8])
     requires { ⌜ length (now public) ≡ 2088 ⌝ }
 {
     let mut ga = [0u64; 257];
@@ -48,7 +48,7 @@ fn fill_public(q: Question, public: &mut [u8])
 fn draw_public(q: Question, public: &mut [u8]) {
     let mut whole = [0u8; 2088];
     fill_public(q, &mut whole);
-    arguments::cut_bytes(&whole, public);
+    arguments::put_bytes(public, 0, &whole);
 }
 
 fn answer_enc(
@@ -105,7 +105,7 @@ fn seal_packet(q: Question, public: &[u8], ciphertext: &mut [u64]) {
 }
 
 // A byte more than a secret key has, so that it may be lent longer than it is.
-fn sealed_secret(q: Question) -> [u8; 65] {
+pub fn sealed_secret(q: Question) -> [u8; 65] {
     let mut secret = [0u8; 65];
     let mut public = [0u8; 2080];
     make_keys(q.first.seed, &mut secret[0..64], &mut public);
@@ -113,7 +113,7 @@ fn sealed_secret(q: Question) -> [u8; 65] {
 }
 
 // One coefficient more, likewise.
-fn sealed_ciphertext(q: Question) -> [u64; 321] {
+pub fn sealed_ciphertext(q: Question) -> [u64; 321] {
     let mut secret = [0u8; 64];
     let mut public = [0u8; 2080];
     let mut ciphertext = [0u64; 321];
@@ -131,13 +131,13 @@ fn drawn_ciphertext(q: Question) -> [u64; 321] {
 fn fill_secret(q: Question, secret: &mut [u8]) {
     if q.call == OPNB || q.call == OPNN {
         let whole = sealed_secret(q);
-        arguments::cut_bytes(&whole, secret);
+        arguments::put_bytes(secret, 0, &whole);
     } else {
         arguments::draw_bytes(secret, q.first.seed);
     }
 }
 
-fn packed(ciphertext: [u64; 321]) -> [u8; 2568] {
+pub fn packed(ciphertext: [u64; 321]) -> [u8; 2568] {
     let mut bytes = [0u8; 2568];
     codec::pack(&ciphertext, &mut bytes);
     bytes
@@ -152,7 +152,7 @@ fn answer_dec(
 ) {
     let whole = packed(numbers);
     fill_secret(q, secret);
-    arguments::cut_bytes(&whole, ciphertext);
+    arguments::put_bytes(ciphertext, 0, &whole);
     arguments::draw_bytes(shared, q.third.seed);
     let answer = galmuriec::kem::dec(secret, ciphertext, shared);
     tell::filled_bytes(answer, shared, q.third.seed);

@@ -81,3 +81,17 @@ pub fn filled_two(answer: Answer, first: &[u8], first_seed: u64, second: &[u8], 
         bytes(second);
     }
 }
+
+// A job's answer of n bytes at the front of the output, where it fits.
+pub fn written(n: usize, output: &[u8], seed: u64) {
+    if n <= output.len() {
+        io::write_all(STDOUT_FILENO, b"wrote ");
+        io::print_hex(STDOUT_FILENO, n as u64, 16);
+        bytes(&output[0..n]);
+        kept(arguments::kept_bytes(output, seed, n));
+    } else {
+        io::write_all(STDOUT_FILENO, b"needs ");
+        io::print_hex(STDOUT_FILENO, n as u64, 16);
+        kept(arguments::kept_bytes(output, seed, 0));
+    }
+}
