@@ -19,6 +19,7 @@ ghost use Rattle.hash.specs.Fips202.{shake256, sha3-256};
 ghost use Rattle.packets.specs.Packets as packets;
 ghost use Rattle.packets.specs.Layout.{public-bytes, public-of};
 ghost use Rattle.kem_calls.specs.Opened.{opened-told, opened-key, zeros};
+ghost use Rattle.job_calls.specs.Jobs.{job-answer, Writes};
 ghost use Rattle.galmuriec_c.specs.Boundary.{Reports, Fills, Gives};
 use judge::Answer;
 use judge::Given;
@@ -410,4 +411,12 @@ pub extern "C" fn galmuriec_clear(secret: &mut [u8], refusal: &mut [u64; 3]) -> 
         (zeros 64) ⌝ }
 {
     report(galmuriec::kem::clear(secret), refusal)
+}
+
+// ---- one job in bytes: the length of its answer
+#[no_mangle]
+pub extern "C" fn galmuriec_job(input: &[u8], output: &mut [u8]) -> usize
+    ensures { λ n. ⌜ Writes (job-answer (now (input .entry))) n (now (output .entry)) (now (output .exit)) ⌝ }
+{
+    galmuriec::job(input, output)
 }
