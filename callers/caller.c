@@ -123,32 +123,32 @@ static void sealed(const struct question *q, uint8_t secret[64], uint64_t cipher
     put(q, 1, ciphertext, 320);
 }
 
-/* A job of the kind that its first byte says: the part is cut to its length, or followed by zeros. */
-static void job(const struct question *q, char kind, uint8_t *s, size_t n)
+/* A job of any bytes, */
+static void job_of_bytes(const struct question *q, uint8_t *s, size_t n)
 {
-    uint8_t whole[1 + 32 + 8 * 321] = {0};
-    uint64_t x = q->part[0].seed, numbers[321];
-    if (kind == 'j') {
-        draw_bytes(s, n, &x);
-        for (int i = 0; i < 2; i++)
-            if (q->place[i].argument == 1 && q->place[i].index < n)
-                s[q->place[i].index] = (uint8_t)q->place[i].value;
-        return;
-    }
-    if (kind == 'e') {
-        whole[0] = 2;
-        public_key(q, 0, whole + 1);
-        x = q->part[1].seed;
-        draw_bytes(whole + 2081, 32, &x);
-        memset(whole + 2113, 0, sizeof whole - 2113);
-    } else {
-        uint8_t *packet = whole + 65;
-        whole[0] = 3;
-        sealed(q, whole + 1, numbers);
-        pack(numbers, (sizeof whole - 65) / 8, packet);
-    }
-    memset(s, 0, n);
-    memcpy(s, whole, n < sizeof whole ? n : sizeof whole);
+    uint64_t x = q->part[0].seed;
+    draw_bytes(s, n, &x);
+    for (int i = 0; i < 2; i++)
+        if (q->place[i].argument == 1 && q->place[i].index < n)
+            s[q->place[i].index] = (uint8_t)q->place[i].value;
+}
+
+/* of a sealing, */
+static void job_of_sealing(const struct question *q, uint8_t out[1 + 2080 + 32])
+{
+    uint64_t x = q->part[1].seed;
+    out[0] = 2;
+    public_key(q, 0, out + 1);
+    draw_bytes(out + 1 + 2080, 32, &x);
+}
+
+/* and of an opening. */
+static void job_of_opening(const struct question *q, uint8_t out[1 + 64 + 8 * 321])
+{
+    uint64_t numbers[321];
+    out[0] = 3;
+    sealed(q, out + 1, numbers);
+    pack(numbers, 321, out + 65);
 }
 
 /* Kinds of arguments. Inputs: bytes b, coefficients c, public key k, packet in bytes p; secret key s and packet, in bytes x or numbers y, of a
@@ -163,27 +163,29 @@ static size_t width(char kind)
     return strchr("v.", kind) ? 0 : strchr("cyNC", kind) ? 8 : 1;
 }
 
+/* Fills the part by its kind; what is made whole first is cut to the part's length, or followed by zeros. */
 static void fill(const struct question *q, unsigned k, char kind)
 {
     const struct part *p = &q->part[k];
-    uint64_t x = p->seed, numbers[321];
-    uint8_t bytes[32 + 8 * 321] = {0};
-    size_t n = p->count, size = n * p->width;
+    uint64_t x = p->seed, numbers[321] = {0};
+    uint8_t secret[64], bytes[1 + 64 + 8 * 321] = {0};
+    const void *whole = bytes;
+    size_t n = p->count, size = n * p->width, most = sizeof bytes;
     switch (kind) {
     case 'b': case 'B': draw_bytes(p->at, n, &x); return;
     case 'N': draw_numbers(p->at, n, &x, UINT64_MAX); return;
     case 'c': case 'C': draw_numbers(p->at, n, &x, GALMURIEC_P); put(q, k, p->at, n); return;
+    case 'j': job_of_bytes(q, p->at, n); return;
     case 'k': public_key(q, k, bytes); break;
     case 'p': draw_numbers(numbers, 321, &x, GALMURIEC_P); put(q, k, numbers, 321); pack(numbers, 321, bytes); break;
     case 's': sealed(q, bytes, numbers); break;
-    case 'x': sealed(q, bytes, numbers); pack(numbers, 321, bytes); break;
-    case 'y': sealed(q, bytes, numbers); memcpy(bytes, numbers, sizeof numbers); break;
-    default: job(q, kind, p->at, n); return;
+    case 'x': sealed(q, secret, numbers); pack(numbers, 321, bytes); break;
+    case 'y': sealed(q, secret, numbers); whole = numbers; most = sizeof numbers; break;
+    case 'e': job_of_sealing(q, bytes); break;
+    case 'o': job_of_opening(q, bytes); break;
     }
-    if (kind == 's')
-        memset(bytes + 64, 0, sizeof bytes - 64);
     memset(p->at, 0, size);
-    memcpy(p->at, bytes, size < sizeof bytes ? size : sizeof bytes);
+    memcpy(p->at, whole, size < most ? size : most);
 }
 
 static void lend(struct question *q, const char *kinds)
