@@ -1,0 +1,19 @@
+-- `draw_numbers` is safe and ends; its loop goes over the slice and keeps its length. Assumes nothing.
+use borrow.Author.Needs.{needs}
+use Prim.Native.Nat.{_-_, _≤_}
+use mathlib.Core.Path.{_≡_}
+use lib.ListN.{length}
+use Rattle.calls_answers.proofs.arguments.draw_numbers.Statement.{statement}
+use Rattle.calls_answers.proofs.arguments.draw_numbers.Tie as tie
+
+abbrev Inv-loop : tie.InvT-loop
+Inv-loop s₀ seed below x₀ i₀ i-end s x i = (i ≤ i-end) × (i-end ≡ length s₀) × (length s ≡ length s₀)
+
+abbrev μ-loop : tie.MeasureT-loop
+μ-loop s₀ seed below x₀ i₀ i-end s x i = i-end - i
+
+pub draw-numbers-spec : {M : Type 1} → statement M
+draw-numbers-spec =
+    tie.close (tie.spec Inv-loop μ-loop (λ c. search needs) (λ c κs. search needs) (λ c. search needs)
+    (λ c. search needs) (λ c. search needs) (λ c. search needs) (λ c. search needs) (λ c. search needs)
+    (λ c. search needs) (λ c. search needs))
