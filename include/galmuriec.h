@@ -33,7 +33,7 @@
  *   - What is lent to one call does not overlap, except that two inputs may be the same or overlap. No other thread
  *     writes what is lent, or reads a buffer, during the call.
  *   - A slice has at most 2^63 - 1 bytes.
- *   - The machine is an x86-64 with Linux and the System V calling convention; the caller's stack has 256 KiB left.
+ *   - The machine is an x86-64 with Linux and the System V calling convention; the caller's stack has 64 KiB left.
  *   No call allocates, blocks, keeps a pointer or has state of its own: calls may run in several threads at once.
  *   Randomness is the caller's: 32 bytes that nobody can guess. What of a secret is left on the stack, and how long a call
  *   takes, is promised nowhere.
