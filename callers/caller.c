@@ -31,19 +31,14 @@ struct question {
 
 static int read_question(struct question *q)
 {
-    char line[256];
-    if (fgets(line, sizeof line, stdin) == NULL)
-        return 0;
     memset(q, 0, sizeof *q);
-    int at = 0;
-    sscanf(line, "%7s%n", q->word, &at);
-    const char *rest = line + at;
-    int parts = ((int)strlen(rest) - 48) / 22; /* each place takes 24 characters, each part 22 */
-    for (int k = 0; k < parts && k < 4; k++, rest += at)
-        if (sscanf(rest, "%zx %lx%n", &q->part[k].count, &q->part[k].seed, &at) != 2)
+    if (scanf("%7s", q->word) != 1)
+        return 0;
+    for (int k = 0; k < 4; k++)
+        if (scanf("%zx %lx", &q->part[k].count, &q->part[k].seed) != 2)
             return 0;
-    for (int k = 0; k < 2; k++, rest += at)
-        if (sscanf(rest, "%x %zx %lx%n", &q->place[k].argument, &q->place[k].index, &q->place[k].value, &at) != 3)
+    for (int k = 0; k < 2; k++)
+        if (scanf("%x %zx %lx", &q->place[k].argument, &q->place[k].index, &q->place[k].value) != 3)
             return 0;
     return 1;
 }
@@ -102,8 +97,10 @@ static void public_key(const struct question *q, unsigned k, uint8_t out[32 + 8 
 static void key_pair(uint64_t seed, uint8_t secret[64], uint8_t public[2080])
 {
     uint8_t randomness[32];
-    galmuriec_refusal refusal;
+    galmuriec_refusal refusal = {0, 0, 0};
     draw_bytes(randomness, 32, &seed);
+    memset(secret, 0, 64);
+    memset(public, 0, 2080);
     if (galmuriec_keygen(randomness, 32, secret, 64, public, 2080, &refusal) != 0)
         stop("no key pair");
 }
@@ -113,7 +110,7 @@ static void sealed(const struct question *q, uint8_t secret[64], uint64_t cipher
 {
     uint8_t other[64], public[2080], randomness[32], shared[32] = {0};
     uint64_t x = q->part[1].seed;
-    galmuriec_refusal refusal;
+    galmuriec_refusal refusal = {0, 0, 0};
     key_pair(q->part[0].seed, secret, public);
     key_pair(q->part[3].seed, other, public);
     draw_bytes(randomness, 32, &x);

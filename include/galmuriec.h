@@ -28,7 +28,7 @@
  * What this boundary does not check, and the caller owes
  *   - Each pointer is valid for as many elements as its count says: readable for an input, readable and writable for a
  *     buffer, *result and *refusal. A count of 0 still wants a pointer that is not null and is aligned.
- *   - Memory that is lent is initialised, buffers and *result too.
+ *   - Memory that is lent is initialised: buffers, *result and *refusal too.
  *   - Pointers to uint64_t and to galmuriec_refusal are aligned for uint64_t (8 bytes).
  *   - What is lent to one call does not overlap, except that two inputs may be the same or overlap. No other thread
  *     writes what is lent, or reads a buffer, during the call.
