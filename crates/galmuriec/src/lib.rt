@@ -5,6 +5,9 @@ pub use judge::Given;
 pub use judge::Record;
 pub use judge::Refusal;
 
+// One job in bytes: crate job_calls.
+pub use job_calls::job;
+
 // On plain numbers: crate field_calls.
 pub mod field {
     pub use field_calls::add;
