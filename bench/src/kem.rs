@@ -154,3 +154,21 @@ pub fn run() -> Vec<String> {
     DEC_REFUSED.compare(ours, theirs, &mut targets);
     targets
 }
+
+/// So many calls of one kind, for bench/profile, which divides by as many.
+const PROFILED: u64 = 100;
+
+pub fn profiled(name: &str) {
+    let (secret, public) = match name {
+        "keygen" => ([0; 64], [0; 2080]),
+        _ => keygen(&randomness(COUNT)),
+    };
+    for drawn in (0..PROFILED).map(randomness) {
+        match name {
+            "keygen" => drop(black_box(keygen(&drawn))),
+            "enc" => drop(black_box(enc(&public, &drawn))),
+            "dec" => drop(black_box(dec(&secret, &enc(&public, &drawn).1))),
+            _ => panic!("keygen, enc or dec"),
+        }
+    }
+}

@@ -6,6 +6,9 @@ mod ring;
 mod timing;
 
 fn main() {
+    if let Some(name) = std::env::args().nth(1) {
+        return kem::profiled(&name);
+    }
     timing::head();
     hash::run();
     ring::run();
