@@ -10,21 +10,22 @@ use lib.Dec.{leb, lit<, lit≤}
 use lib.ListN.{getD}
 use borrow.Author.Tests.{le-leb, lt-leb}
 use Rattle.laws.specs.Lists.{Below}
+use Rattle.laws.specs.Bits.{bit}
+use Rattle.laws.proofs.Bits.{bit-lt}
 use Rattle.laws.proofs.Orders.{le-or-lt}
 use Rattle.laws.proofs.Tests.{both}
 use Rattle.laws.proofs.Lists.{getD-tab}
 use Rattle.laws.proofs.Bounds.{tab-below}
 use Rattle.field.specs.Field.{P, Coefficients}
-use Rattle.lanes.specs.Bits.{placed}
-use Rattle.lanes.specs.Messages.{lifted, embedded, embed, chunk, judged, read, extracted, extract}
-use Rattle.lanes.proofs.Samplers.{bit-small}
+use Rattle.lanes.specs.Lanes.{placed}
+use Rattle.lanes.specs.Messages.{lifted, embedded, embed, chunk, chunk-bit, read, extracted, extract}
 
 -- ---- embedding
 pub lifted-below : (n h : ℕ) → lifted n h < P
 unfolding lifted
-lifted-below n h = most _ _ _ _ (bit-small n h) (bit-small n (h + 1)) (bit-small n (h + 2)) (bit-small n (h + 3))
+lifted-below n h = most _ _ _ _ (bit-lt n h) (bit-lt n (h + 1)) (bit-lt n (h + 2)) (bit-lt n (h + 3))
   where
-    most : (a b c d : ℕ) → a ≤ 1 → b ≤ 1 → c ≤ 1 → d ≤ 1 → placed (2 ^ 15 * a) (2 ^ 15 * b) (2 ^ 15 * c) (2 ^ 15 * d) < P
+    most : (a b c d : ℕ) → a < 2 → b < 2 → c < 2 → d < 2 → placed (2 ^ 15 * a) (2 ^ 15 * b) (2 ^ 15 * c) (2 ^ 15 * d) < P
     most a b c d ha hb hc hd = omega arith
 
 pub embed-canonical : (m : List ℕ) → Coefficients 64 (embed m)
@@ -33,7 +34,7 @@ embed-canonical m = tab-below P 64 (λ k. embedded m k) (lit< tt) (λ k h. lifte
 
 -- bits 4 to 7 are the lowest four of the byte's upper half
 pub lifted-upper : (n : ℕ) → lifted (n / 16) 0 ≡ lifted n 4
-unfolding lifted
+unfolding lifted bit
 lifted-upper n = λ i. placed (2 ^ 15 * (half 1 i % 2)) (2 ^ 15 * (half 2 i % 2)) (2 ^ 15 * (half 4 i % 2)) (2 ^ 15 * (half 8 i % 2))
   where
     half : (d : ℕ) → n / 16 / d ≡ n / (16 * d)
@@ -69,29 +70,29 @@ embed-odd m i h = getD-tab 64 (λ k. embedded m k) 0 (2 * i + 1) (omega arith) �
 abbrev chosen : Bool → Bool → ℕ
 chosen s t = elim (both s t) [ true ↦ 1 | false ↦ 0 ]
 
-pub judged-low : (c : ℕ) → c < 16384 → judged c ≡ 0
-unfolding judged
-judged-low c h = ap (λ (s : Bool). chosen s (leb c 49152)) (lt-leb 16384 c h)
+pub chunk-bit-low : (c : ℕ) → c < 16384 → chunk-bit c ≡ 0
+unfolding chunk-bit
+chunk-bit-low c h = ap (λ (s : Bool). chosen s (leb c 49152)) (lt-leb 16384 c h)
 
-pub judged-middle : (c : ℕ) → 16384 ≤ c → c ≤ 49152 → judged c ≡ 1
-unfolding judged
-judged-middle c g h = λ i. chosen (le-leb 16384 c g i) (le-leb c 49152 h i)
+pub chunk-bit-middle : (c : ℕ) → 16384 ≤ c → c ≤ 49152 → chunk-bit c ≡ 1
+unfolding chunk-bit
+chunk-bit-middle c g h = λ i. chosen (le-leb 16384 c g i) (le-leb c 49152 h i)
 
-pub judged-high : (c : ℕ) → 49152 < c → judged c ≡ 0
-unfolding judged
-judged-high c h = let g : 16384 ≤ c = omega arith in λ i. chosen (le-leb 16384 c g i) (lt-leb c 49152 h i)
+pub chunk-bit-high : (c : ℕ) → 49152 < c → chunk-bit c ≡ 0
+unfolding chunk-bit
+chunk-bit-high c h = let g : 16384 ≤ c = omega arith in λ i. chosen (le-leb 16384 c g i) (lt-leb c 49152 h i)
 
-pub judged-small : (c : ℕ) → judged c ≤ 1
-judged-small c =
-    ⊎-elim (λ g. ⊎-elim (λ h. within 1 (judged-middle c g h) (lit≤ tt)) (λ h. within 0 (judged-high c h) (lit≤ tt)) (le-or-lt c 49152))
-    (λ g. within 0 (judged-low c g) (lit≤ tt)) (le-or-lt 16384 c)
+pub chunk-bit-lt : (c : ℕ) → chunk-bit c ≤ 1
+chunk-bit-lt c =
+    ⊎-elim (λ g. ⊎-elim (λ h. within 1 (chunk-bit-middle c g h) (lit≤ tt)) (λ h. within 0 (chunk-bit-high c h) (lit≤ tt)) (le-or-lt c 49152))
+    (λ g. within 0 (chunk-bit-low c g) (lit≤ tt)) (le-or-lt 16384 c)
   where
-    within : (b : ℕ) → judged c ≡ b → b ≤ 1 → judged c ≤ 1
+    within : (b : ℕ) → chunk-bit c ≡ b → b ≤ 1 → chunk-bit c ≤ 1
     within b e h = subst (λ (n : ℕ). n ≤ 1) (sym e) h
 
 pub read-small : (v : ℕ) → read v ≤ 15
 unfolding read
-read-small v = most _ _ _ _ (judged-small (chunk v 0)) (judged-small (chunk v 1)) (judged-small (chunk v 2)) (judged-small (chunk v 3))
+read-small v = most _ _ _ _ (chunk-bit-lt (chunk v 0)) (chunk-bit-lt (chunk v 1)) (chunk-bit-lt (chunk v 2)) (chunk-bit-lt (chunk v 3))
   where
     most : (a b c d : ℕ) → a ≤ 1 → b ≤ 1 → c ≤ 1 → d ≤ 1 → a + 2 * b + 4 * c + 8 * d ≤ 15
     most a b c d ha hb hc hd = omega arith

@@ -1,15 +1,15 @@
 -- What the samplers draw: canonical coefficients, counts of at most 8, and the steps by which nine bytes are read. Assumes nothing.
 use mathlib.Core.Path.{_≡_, refl, sym, ap, _∙_}
 use mathlib.Core.List.{List, [], _∷_}
-use Prim.Native.Nat.{ℕ, zero, suc, _+_, _*_, _-_, _/_, _%_, _^_, _≤_, _<_}
-use native.Mathlib.Nat.{mod-lt, pow-suc, le-of-suc-le-suc, add-zero, add-suc, zero-add}
+use Prim.Native.Nat.{ℕ, zero, suc, _+_, _*_, _-_, _%_, _^_, _≤_, _<_}
+use native.Mathlib.Nat.{mod-lt, pow-suc, add-zero, add-suc, zero-add}
 use native.Mathlib.Omega.{arith}
 use lib.Dec.{lit<}
 use lib.ListN.{getD}
+use Rattle.laws.proofs.Bits.{bit-lt}
 use Rattle.laws.proofs.Bounds.{tab-below}
 use Rattle.laws.proofs.ModularSolver.{mod-ring, at, lit, rem, _⊞_, _⊠_}
 use Rattle.field.specs.Field.{P, Coefficients}
-use Rattle.lanes.specs.Bits.{bit}
 use Rattle.lanes.specs.Samplers.{big-endian, uniform, uniforms, ones, counts, short, shorts}
 
 pub uniform-below : (l : List ℕ) (s : ℕ) → uniform l s < P
@@ -29,13 +29,10 @@ unfolding shorts
 shorts-canonical count n l = tab-below P n (λ k. short count l (8 * k)) (lit< tt) (λ k h. short-below count l (8 * k))
 
 -- ---- bits counted
-pub bit-small : (n j : ℕ) → bit n j ≤ 1
-bit-small n j = le-of-suc-le-suc (mod-lt (n / 2 ^ j) (lit< tt))
-
 pub ones-small : (n : ℕ) → ones n ≤ 8
 unfolding ones
 ones-small n =
-    omega (arith, bit-small n 0, bit-small n 1, bit-small n 2, bit-small n 3, bit-small n 4, bit-small n 5, bit-small n 6, bit-small n 7)
+    omega (arith, bit-lt n 0, bit-lt n 1, bit-lt n 2, bit-lt n 3, bit-lt n 4, bit-lt n 5, bit-lt n 6, bit-lt n 7)
 
 -- ---- bytes read from the highest on
 -- k bytes behind n

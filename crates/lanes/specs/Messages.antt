@@ -6,7 +6,8 @@ use lib.Dec.{leb}
 use lib.ListN.{getD}
 use Rattle.laws.specs.Lists.{tab}
 use Rattle.laws.proofs.Tests.{both}
-use Rattle.lanes.specs.Bits.{bit, placed}
+use Rattle.laws.specs.Bits.{bit}
+use Rattle.lanes.specs.Lanes.{placed}
 
 -- four bits of n from bit h on: bit h + j gives 2^(15 + 16 j)
 unfoldable pub lifted : ℕ → ℕ → ℕ
@@ -24,12 +25,12 @@ abbrev pub chunk : ℕ → ℕ → ℕ
 chunk v j = v / 2 ^ (16 * j) % 2 ^ 16
 
 -- a chunk below 16384 or above 49152 gives 0, any other 1
-unfoldable pub judged : ℕ → ℕ
-judged c = elim (both (leb 16384 c) (leb c 49152)) [ true ↦ 1 | false ↦ 0 ]
+unfoldable pub chunk-bit : ℕ → ℕ
+chunk-bit c = elim (both (leb 16384 c) (leb c 49152)) [ true ↦ 1 | false ↦ 0 ]
 
 -- the four bits of a coefficient
 unfoldable pub read : ℕ → ℕ
-read v = judged (chunk v 0) + 2 * judged (chunk v 1) + 4 * judged (chunk v 2) + 8 * judged (chunk v 3)
+read v = chunk-bit (chunk v 0) + 2 * chunk-bit (chunk v 1) + 4 * chunk-bit (chunk v 2) + 8 * chunk-bit (chunk v 3)
 
 -- byte i
 abbrev pub extracted : List ℕ → ℕ → ℕ

@@ -11,14 +11,15 @@ use Rattle.laws.specs.Points.{Row, row, Holds}
 use Rattle.field.specs.Field.{P}
 use Rattle.ring.specs.Transform.{brv, value, point, transform}
 use Rattle.ring.specs.Elements.{shift, product}
-use Rattle.lanes.specs.Bits.{bit, placed}
+use Rattle.laws.specs.Bits.{bit}
+use Rattle.lanes.specs.Lanes.{placed}
 use Rattle.lanes.specs.Samplers.{big-endian, uniform, ones, counts, short}
-use Rattle.lanes.specs.Messages.{lifted, embed, judged, read}
+use Rattle.lanes.specs.Messages.{lifted, embed, chunk-bit, read}
 
 -- what is asked: the bit of a chunk; the bits of a coefficient that has these four chunks; the first two coefficients of a payload that begins with
 -- this byte; the coefficient drawn from these bytes; X^i times X^j; some outputs of the transform of X^i
 pub data Asked : Type 0 where
-  judge : ℕ → Asked
+  bit-of : ℕ → Asked
   bits-of : ℕ → ℕ → ℕ → ℕ → Asked
   embed-byte : ℕ → Asked
   draw-uniform : List ℕ → Asked
@@ -32,7 +33,7 @@ monomial i = tab 64 (λ k. elim (eqb k i) [ true ↦ 1 | false ↦ 0 ])
 
 -- what the definitions answer
 unfoldable pub answer : Asked → List ℕ
-answer (judge c) = judged c ∷ []
+answer (bit-of c) = chunk-bit c ∷ []
 answer (bits-of c0 c1 c2 c3) = tab 4 (λ j. bit (read (placed c0 c1 c2 c3)) j)
 answer (embed-byte b) = take 2 (embed (b ∷ replicate 31 0))
 answer (draw-uniform l) = uniform l 0 ∷ []
@@ -43,10 +44,10 @@ answer (outputs i ks) = map (λ (k : ℕ). getD (transform (monomial i)) k 0) ks
 -- what document 01 tells
 unfoldable pub points : List (Row Asked)
 points =
-    row (judge 16383) (0 ∷ [])
-    ∷ row (judge 16384) (1 ∷ [])
-    ∷ row (judge 49152) (1 ∷ [])
-    ∷ row (judge 49153) (0 ∷ [])
+    row (bit-of 16383) (0 ∷ [])
+    ∷ row (bit-of 16384) (1 ∷ [])
+    ∷ row (bit-of 49152) (1 ∷ [])
+    ∷ row (bit-of 49153) (0 ∷ [])
     ∷ row (bits-of 1 65535 49152 65534) (0 ∷ 0 ∷ 1 ∷ 0 ∷ [])
     ∷ row (embed-byte 0xFF) (9223512776490647552 ∷ 9223512776490647552 ∷ [])
     ∷ row (embed-byte 0x10) (0 ∷ 32768 ∷ [])
@@ -60,5 +61,5 @@ points =
     ∷ []
 
 pub edges : Holds answer points
-unfolding points answer monomial tab tabFrom total product shift transform value point brv judged read embed lifted uniform big-endian short counts ones
+unfolding points answer monomial tab tabFrom total product shift transform value point brv bit chunk-bit read embed lifted uniform big-endian short counts ones
 edges = refl

@@ -5,7 +5,8 @@ use Prim.Native.Nat.{ℕ, zero, suc, _+_, _*_, _-_, _%_}
 use lib.ListN.{getD}
 use Rattle.laws.specs.Lists.{tab}
 use Rattle.field.specs.Field.{P}
-use Rattle.lanes.specs.Bits.{bit, placed}
+use Rattle.laws.specs.Bits.{bit}
+use Rattle.lanes.specs.Lanes.{placed}
 
 -- n bytes from place s on, the first one the highest
 unfoldable pub big-endian : List ℕ → ℕ → ℕ → ℕ

@@ -6,7 +6,7 @@ ghost use lib.ListN.{length};
 ghost use Rattle.laws.specs.Lists.{tab};
 ghost use Rattle.field.specs.Field.{P};
 ghost use Rattle.lanes.specs.Samplers.{big-endian, uniform, uniforms, ones, counts, short, shorts};
-ghost use Rattle.lanes.specs.Messages.{lifted, embed, judged, read, extract};
+ghost use Rattle.lanes.specs.Messages.{lifted, embed, chunk-bit, read, extract};
 
 // How many bits of each byte are set.
 const NUM_SET_BITS: [u8; 256] = [
@@ -402,9 +402,9 @@ pub fn embed_msg(msg: &[u8], out: &mut [u64])
 }
 
 // A chunk of sixteen bits that is near 0 or near 2^16 is a 0.
-fn judge(chunk: u64) -> u64
+fn chunk_bit(chunk: u64) -> u64
     requires { ⌜ chunk < 2 ^ 16 ⌝ }
-    ensures { λ r. ⌜ (r ≡ judged chunk) × (r ≤ 1) ⌝ }
+    ensures { λ r. ⌜ (r ≡ chunk-bit chunk) × (r ≤ 1) ⌝ }
 {
     if chunk < (1 << 14) {
         0
@@ -419,10 +419,10 @@ fn judge(chunk: u64) -> u64
 fn read_bits(v: u64) -> u64
     ensures { λ r. ⌜ (r ≡ read v) × (r ≤ 15) ⌝ }
 {
-    judge(v % 0x1_0000)
-        + 2 * judge(v / 0x1_0000 % 0x1_0000)
-        + 4 * judge(v / 0x1_0000_0000 % 0x1_0000)
-        + 8 * judge(v / 0x1_0000_0000_0000 % 0x1_0000)
+    chunk_bit(v % 0x1_0000)
+        + 2 * chunk_bit(v / 0x1_0000 % 0x1_0000)
+        + 4 * chunk_bit(v / 0x1_0000_0000 % 0x1_0000)
+        + 8 * chunk_bit(v / 0x1_0000_0000_0000 % 0x1_0000)
 }
 
 pub fn extract_msg(embedding: &[u64], out: &mut [u8])

@@ -1,4 +1,4 @@
--- One coefficient of an embedding with noise of lanes of size up to the limit: every chunk is judged to be its bit. A lane e is x - y, for naturals x and y.
+-- One coefficient of an embedding with noise of lanes of size up to the limit: every chunk gives its bit. A lane e is x - y, for naturals x and y.
 -- The borrow that a lane takes from the next stays a variable, and so does k, which is 1 where the sum came below 0 and p was added. Assumes nothing.
 use mathlib.Core.Path.{_≡_, sym, ap, _∙_}
 use mathlib.Core.Logic.{⊎-elim}
@@ -8,14 +8,14 @@ use native.Mathlib.Omega.{arith}
 use lib.Dec.{lit<}
 use Rattle.laws.proofs.Orders.{le-or-lt}
 use Rattle.field.specs.Field.{P}
-use Rattle.lanes.specs.Bits.{placed}
-use Rattle.lanes.specs.Messages.{judged, read, chunk}
+use Rattle.lanes.specs.Lanes.{placed}
+use Rattle.lanes.specs.Messages.{chunk-bit, read, chunk}
 use Rattle.noise.specs.Lanes.{limit}
-use Rattle.lanes.proofs.Messages.{judged-low, judged-middle, judged-high}
+use Rattle.lanes.proofs.Messages.{chunk-bit-low, chunk-bit-middle, chunk-bit-high}
 
 -- ---- one lane. From below came t - 2, and on goes `on` - 2; c is the chunk, C what is above it, X what the lanes above are worth
 record Step (b c C X : ℕ) : Type 0 where
-  bit-is : judged c ≡ b
+  bit-is : chunk-bit c ≡ b
   on : ℕ
   on-low : 1 ≤ on
   on-high : on ≤ 2
@@ -29,16 +29,16 @@ lane b c x y t C X hb hc up down ht e = ⊎-elim (λ h. kept h) (λ h. borrowed 
         let q : C ≡ X = omega arith in
         record { bit-is = ⊎-elim (λ z. zero-bit q z) (λ z. one-bit q z) (le-or-lt b 0); on = 2; on-low = omega arith; on-high = omega arith; next = omega arith }
       where
-        zero-bit : C ≡ X → b ≤ 0 → judged c ≡ b
-        zero-bit q z = judged-low c (omega arith) ∙ (omega arith)
+        zero-bit : C ≡ X → b ≤ 0 → chunk-bit c ≡ b
+        zero-bit q z = chunk-bit-low c (omega arith) ∙ (omega arith)
 
-        one-bit : C ≡ X → 0 < b → judged c ≡ b
-        one-bit q z = judged-middle c (omega arith) (omega arith) ∙ (omega arith)
+        one-bit : C ≡ X → 0 < b → chunk-bit c ≡ b
+        one-bit q z = chunk-bit-middle c (omega arith) (omega arith) ∙ (omega arith)
 
     borrowed : C < X → Step b c C X
     borrowed h =
         let q : C + 1 ≡ X = omega arith in
-        record { bit-is = judged-high c (omega arith) ∙ (omega arith); on = 1; on-low = omega arith; on-high = omega arith; next = omega arith }
+        record { bit-is = chunk-bit-high c (omega arith) ∙ (omega arith); on = 1; on-low = omega arith; on-high = omega arith; next = omega arith }
 
 -- ---- four lanes, the lowest first: the equation that each takes, from the one before. Each is a lemma of its own, since omega is fast on few variables
 first : (v v1 k c0 z0 y0 Y W : ℕ) → v ≡ v1 * 65536 + c0 → v + (y0 + 65536 * Y) ≡ z0 + 65536 * W + k * P → c0 + y0 + 65536 * (v1 + Y) + 2 ≡ z0 + (2 + k) + 65536 * (W + k * (2 ^ 48 - 2 ^ 16))

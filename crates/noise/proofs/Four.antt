@@ -13,7 +13,7 @@ use Rattle.laws.proofs.Congruence.{c-refl, c-eq, c-trans, c-sym, c-add, c-mul, 
 use Rattle.laws.proofs.ModularSolver.{Quoted, mod-ring, at, lit, neg, _⊞_, _⊠_}
 use Rattle.laws.proofs.Integers.{Sized, size-add, size-neg, size-mul, size-wider, Leaves, leaves-pos, leaves-cong, leaves-residue, residue-below, leaves-one, leaves-add, leaves-neg, leaves-mul}
 use Rattle.field.specs.Field.{P}
-use Rattle.lanes.specs.Bits.{placed}
+use Rattle.lanes.specs.Lanes.{placed}
 use Rattle.noise.specs.Lanes.{Lanes}
 
 pub record Four : Type 0 where

@@ -2,7 +2,7 @@
 use mathlib.Core.Path.{_≡_, refl, sym, ap, _∙_, subst}
 use mathlib.Core.List.{List, _∷_}
 use Prim.Native.Nat.{ℕ, zero, suc, _+_, _*_, _%_, _^_, _<_}
-use native.Mathlib.Nat.{add-assoc, add-zero, mod-lt, mod-eq-of-lt}
+use native.Mathlib.Nat.{le-of-suc-le-suc, add-assoc, add-zero, mod-lt, mod-eq-of-lt}
 use native.Mathlib.Omega.{arith}
 use lib.Dec.{lit<, lit≤}
 use lib.IntN.{ℤ, pos, negsuc}
@@ -12,14 +12,15 @@ use Rattle.laws.specs.Congruence.{Cong}
 use Rattle.laws.specs.Integers.{residue}
 use Rattle.laws.proofs.Tests.{equal-at}
 use Rattle.laws.proofs.Lists.{getD-tab, is-tab}
+use Rattle.laws.proofs.Bits.{bit-lt}
 use Rattle.laws.proofs.Bounds.{tab-below}
 use Rattle.laws.proofs.Congruence.{c-refl, c-eq, c-trans, c-sym, c-add, c-mul, c-mod}
 use Rattle.laws.proofs.Integers.{Sized, over, under, over-at-most, under-at-most, leaves-residue}
 use Rattle.field.specs.Field.{P, Coefficients}
 use Rattle.ring.specs.Elements.{plus}
-use Rattle.lanes.specs.Bits.{bit, placed}
-use Rattle.lanes.specs.Messages.{lifted, embed, judged, read, extracted, extract}
-use Rattle.lanes.proofs.Samplers.{bit-small}
+use Rattle.laws.specs.Bits.{bit}
+use Rattle.lanes.specs.Lanes.{placed}
+use Rattle.lanes.specs.Messages.{lifted, embed, chunk-bit, read, extracted, extract}
 use Rattle.lanes.proofs.Messages.{embed-even, embed-odd, embed-canonical}
 use Rattle.noise.specs.Lanes.{Lanes, limit, Harmless}
 use Rattle.noise.proofs.Chunks.{Noisy, reads}
@@ -58,7 +59,7 @@ one-coefficient n h w l =
     a = placed (2 ^ 15 * bit n h) (2 ^ 15 * bit n (h + 1)) (2 ^ 15 * bit n (h + 2)) (2 ^ 15 * bit n (h + 3))
 
     noisy : (j : ℕ) {z : ℤ} → Sized z limit → Noisy (bit n j) (over z) (under z)
-    noisy j {z} s = record { bit-small = bit-small n j; up = over-at-most z s; down = under-at-most z s }
+    noisy j {z} s = record { bit-small = le-of-suc-le-suc (bit-lt n j); up = over-at-most z s; down = under-at-most z s }
 
     moved : Cong P ((a + w) % P + placed (under (e .l0)) (under (e .l1)) (under (e .l2)) (under (e .l3)))
         (a + placed (over (e .l0)) (over (e .l1)) (over (e .l2)) (over (e .l3)))
@@ -67,6 +68,7 @@ one-coefficient n h w l =
 -- ---- all of them
 -- a byte is its bits
 bits : (n : ℕ) → n < 256 → bit n 0 + 2 * bit n 1 + 4 * bit n 2 + 8 * bit n 3 + 16 * (bit n 4 + 2 * bit n 5 + 4 * bit n 6 + 8 * bit n 7) ≡ n
+unfolding bit
 bits n h = equal-at (λ m. bit m 0 + 2 * bit m 1 + 4 * bit m 2 + 8 * bit m 3 + 16 * (bit m 4 + 2 * bit m 5 + 4 * bit m 6 + 8 * bit m 7)) (λ m. m) 256 tt n h
 
 plus-at : (a b : List ℕ) (k : ℕ) → k < 64 → getD (plus 64 a b) k 0 ≡ (getD a k 0 + getD b k 0) % P
@@ -138,7 +140,7 @@ turning-lanes zero = record {
 turning-lanes (suc k) = no-lanes (limit + 1)
 
 pub turned : extract (plus 64 (embed (replicate 32 0)) (tab 64 turning)) ≡ 4 ∷ replicate 31 0
-unfolding extract plus embed lifted read judged tab tabFrom turning
+unfolding extract plus embed lifted bit read chunk-bit tab tabFrom turning
 turned = refl
 
 pub sharp : Harmless (limit + 1) → ⊥

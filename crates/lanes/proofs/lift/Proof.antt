@@ -4,7 +4,8 @@ use Prim.Native.Nat.{ℕ, _+_, _*_, _/_, _%_, _^_}
 use mathlib.Core.Path.{_≡_, sym, ap, _∙_}
 use native.Mathlib.Nat.{div-one}
 use borrow.Author.Needs.{needs}
-use Rattle.lanes.specs.Bits.{placed}
+use Rattle.laws.specs.Bits.{bit}
+use Rattle.lanes.specs.Lanes.{placed}
 use Rattle.lanes.specs.Messages.{lifted}
 use Rattle.lanes.proofs.lift.Statement.{statement}
 use Rattle.lanes.proofs.lift.Tie as tie
@@ -14,7 +15,7 @@ tops : (b0 b1 b2 b3 : ℕ) → b0 * 0x8000 + b1 * 0x8000_0000 + b2 * 0x8000_0000
 tops b0 b1 b2 b3 = omega arith
 
 returns : tie.Need-returns
-unfolding lifted
+unfolding lifted bit
 returns c =
     let b = c .args .b in
     tops (b % 2) (b / 2 % 2) (b / 4 % 2) (b / 8 % 2)

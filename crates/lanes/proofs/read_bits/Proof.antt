@@ -1,9 +1,9 @@
--- `read_bits` judges the four chunks of a coefficient. Assumes nothing.
+-- `read_bits` takes the bits of the four chunks of a coefficient. Assumes nothing.
 use native.Mathlib.Omega.{arith}
 use Prim.Native.Nat.{ℕ, _+_, _*_, _%_, _^_}
 use mathlib.Core.Path.{sym, _∙_, ap}
 use borrow.Author.Needs.{needs}
-use Rattle.lanes.specs.Messages.{judged, read}
+use Rattle.lanes.specs.Messages.{chunk-bit, read}
 use native.Mathlib.Nat.{div-one}
 use Rattle.lanes.proofs.read_bits.Statement.{statement}
 use Rattle.lanes.proofs.read_bits.Tie as tie
@@ -14,8 +14,8 @@ returns c =
     let k = c .before .before in
     let v = k .before .before .args .v in (
       λ i.
-          (k .before .judge .ensures .0 ∙ ap (λ (n : ℕ). judged (n % 2 ^ 16)) (sym (div-one v))) i + 2 * k .judge2 .ensures .0 i + 4 * c .before .judge3 .ensures .0 i
-          + 8 * c .judge4 .ensures .0 i,
+          (k .before .chunk-bit .ensures .0 ∙ ap (λ (n : ℕ). chunk-bit (n % 2 ^ 16)) (sym (div-one v))) i + 2 * k .chunk-bit2 .ensures .0 i + 4 * c .before .chunk-bit3 .ensures .0 i
+          + 8 * c .chunk-bit4 .ensures .0 i,
       omega arith,
     )
 

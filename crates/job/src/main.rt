@@ -1,0 +1,16 @@
+// Reads one job from standard input and writes its answer to standard output: document 01, "The job program". It reads at most one byte
+// more than the longest job has, so any input, even an endless one, ends.
+use libc::STDIN_FILENO;
+use libc::STDOUT_FILENO;
+
+fn answer(input: &[u8]) {
+    let mut output = [0u8; 2593];
+    let n = galmuriec::job(input, &mut output);
+    io::write_all(STDOUT_FILENO, &output[0..n]);
+}
+
+fn main() {
+    let mut input = [0u8; 2626];
+    let n = io::read_full(STDIN_FILENO, &mut input);
+    answer(&input[0..n]);
+}
