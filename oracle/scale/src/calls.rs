@@ -1,5 +1,6 @@
 //! Every public call: what it is lent, the archive's function, and whose answer is owed.
 
+use oracle::kem;
 use oracle::operation::Operation;
 use oracle::random::Random;
 use sha3::digest::{Digest, ExtendableOutput, Update};
@@ -212,7 +213,11 @@ impl Call {
     pub fn questions(&self, count: usize, random: &mut Random) -> Vec<Vec<Lent>> {
         match self.theirs {
             Published(word, _) => {
-                let drawn = (operation(word).generator)(count, random);
+                let mut drawn = (operation(word).generator)(count, random);
+                if word == "decr" {
+                    // of the operation's own one in 29 opens
+                    drawn.extend(kem::honest_openings(count, random));
+                }
                 drawn
                     .iter()
                     .map(|numbers| self.lent(numbers, random))
