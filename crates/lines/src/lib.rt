@@ -8,7 +8,8 @@ ghost use Prim.Native.Nat.{_<_};
 ghost use lib.ListN.{length};
 ghost use Rattle.field.specs.Field.{P, Coefficients};
 
-fn wide(byte: u8) -> u64
+// A byte as a number: asks for no proof that it fits.
+pub fn wide(byte: u8) -> u64
     ensures { λ r. ⌜ r < 256 ⌝ }
 {
     byte as u64
@@ -100,11 +101,11 @@ pub fn word(bytes: &[u8; 4]) -> u64 {
         + wide(bytes[3])
 }
 
-fn space() {
+pub fn space() {
     io::write_all(STDOUT_FILENO, b" ");
 }
 
-fn end_line() {
+pub fn end_line() {
     io::write_all(STDOUT_FILENO, b"\n");
 }
 

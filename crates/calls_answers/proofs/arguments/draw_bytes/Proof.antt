@@ -3,8 +3,8 @@ use borrow.Author.Needs.{needs}
 use Prim.Native.Nat.{_-_, _≤_}
 use mathlib.Core.Path.{_≡_}
 use lib.ListN.{length}
-use Rattle.calls_answers.proofs.draw_bytes.Statement.{statement}
-use Rattle.calls_answers.proofs.draw_bytes.Tie as tie
+use Rattle.calls_answers.proofs.arguments.draw_bytes.Statement.{statement}
+use Rattle.calls_answers.proofs.arguments.draw_bytes.Tie as tie
 
 abbrev Inv-loop : tie.InvT-loop
 Inv-loop s₀ seed x₀ i₀ i-end s x i = (i ≤ i-end) × (i-end ≡ length s₀) × (length s ≡ length s₀)

@@ -2,8 +2,8 @@
 use borrow.Author.Needs.{needs}
 use Prim.Native.Nat.{_-_, _≤_}
 use lib.ListN.{length}
-use Rattle.calls_answers.proofs.same_numbers.Statement.{statement}
-use Rattle.calls_answers.proofs.same_numbers.Tie as tie
+use Rattle.calls_answers.proofs.arguments.same_numbers.Statement.{statement}
+use Rattle.calls_answers.proofs.arguments.same_numbers.Tie as tie
 
 abbrev Inv-loop : tie.InvT-loop
 Inv-loop a b i₀ i = i ≤ length a

@@ -1,0 +1,19 @@
+-- `bytes` is safe and ends; its loop goes over the bytes. Assumes nothing.
+use borrow.Author.Needs.{needs}
+use Prim.Native.Nat.{_-_, _≤_}
+use mathlib.Core.Path.{_≡_}
+use lib.ListN.{length}
+use Rattle.calls_answers.proofs.tell.bytes.Statement.{statement}
+use Rattle.calls_answers.proofs.tell.bytes.Tie as tie
+
+abbrev Inv-loop : tie.InvT-loop
+Inv-loop s i₀ i-end i = (i ≤ i-end) × (i-end ≡ length s)
+
+abbrev μ-loop : tie.MeasureT-loop
+μ-loop s i₀ i-end i = i-end - i
+
+pub bytes-spec : {M : Type 1} → statement M
+bytes-spec =
+    tie.close (tie.spec Inv-loop μ-loop (λ c κs. search needs) (λ c. search needs) (λ c. search needs)
+    (λ c κs. search needs) (λ c κs. search needs) (λ c. search needs) (λ c. search needs) (λ c. search needs)
+    (λ c. search needs))
