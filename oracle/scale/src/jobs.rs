@@ -77,17 +77,10 @@ pub fn archive_agrees(job: &[u8], answer: &[u8], room: usize, random: &mut Rando
     if answer.len() <= room {
         expected.part_mut()[..answer.len()].copy_from_slice(answer);
     }
-    let (input, kept) = (Slice::new(job, random), job);
-    let part = output.part_mut();
-    let size = unsafe {
-        galmuriec_job(
-            input.part().as_ptr(),
-            input.part().len(),
-            part.as_mut_ptr(),
-            part.len(),
-        )
-    };
-    size == answer.len() && output == expected && input.part() == kept
+    let input = Slice::new(job, random);
+    let (from, to) = (input.part(), output.part_mut());
+    let size = unsafe { galmuriec_job(from.as_ptr(), from.len(), to.as_mut_ptr(), to.len()) };
+    size == answer.len() && output == expected && input.part() == job
 }
 
 /// Rooms by turns: with place to spare, exact, one byte too small, none, any.
