@@ -260,19 +260,26 @@ fn small(width: usize, random: &mut Random) -> Vec<u64> {
 }
 
 fn openings(count: usize, random: &mut Random) -> Vec<Vec<u64>> {
-    let opening = |i: usize| {
-        let (secret, public) = keygen(bytes(&four(random)));
-        let (_, packet) = enc(public, bytes(&four(random)));
-        let mut delivery = Delivery {
-            public,
-            key: secret_numbers(&secret),
-            packet: coefficients(packet),
-            random,
-        };
-        WAYS[i % WAYS.len()](&mut delivery);
-        [delivery.key, delivery.packet].concat()
+    let ways = WAYS.iter().cycle().take(count.max(WAYS.len()));
+    ways.map(|way| opening(*way, random)).collect()
+}
+
+/// Packets as they were sealed, so many.
+pub fn honest_openings(count: usize, random: &mut Random) -> Vec<Vec<u64>> {
+    (0..count).map(|_| opening(|_| {}, random)).collect()
+}
+
+fn opening(way: fn(&mut Delivery), random: &mut Random) -> Vec<u64> {
+    let (secret, public) = keygen(bytes(&four(random)));
+    let (_, packet) = enc(public, bytes(&four(random)));
+    let mut delivery = Delivery {
+        public,
+        key: secret_numbers(&secret),
+        packet: coefficients(packet),
+        random,
     };
-    (0..count.max(WAYS.len())).map(opening).collect()
+    way(&mut delivery);
+    [delivery.key, delivery.packet].concat()
 }
 
 #[cfg(test)]

@@ -1,25 +1,11 @@
 //! Asks questions and answers them by the published Rust, so that another program's answers can be compared.
 
-mod field;
-mod kem;
-mod lanes;
 mod line;
-mod operation;
-mod random;
-mod ring;
 
 use std::io::{self, BufRead, BufWriter, Write};
 use std::process::ExitCode;
 
-use operation::Operation;
-
-/// A layer's name and its operations. A new layer is a new row.
-const LAYERS: &[(&str, &[Operation])] = &[
-    ("field", field::OPERATIONS),
-    ("ring", ring::OPERATIONS),
-    ("lanes", lanes::OPERATIONS),
-    ("kem", kem::OPERATIONS),
-];
+use oracle::LAYERS;
 
 const USAGE: &str = "usage: oracle questions LAYER COUNT SEED\n       oracle answers";
 
@@ -84,10 +70,10 @@ fn answers() -> Result<(), String> {
 /// The answer line to a question line, if it is one.
 fn answer(question: &[u8]) -> Option<Vec<u8>> {
     let (word, operands) = line::read_question(question)?;
-    let operation = LAYERS
-        .iter()
-        .flat_map(|(_, operations)| *operations)
-        .find(|operation| operation.word == word && operation.operands == operands.len())?;
+    let operation = oracle::operation(word)?;
+    if operation.operands != operands.len() {
+        return None;
+    }
     Some(match operation.answer(&operands) {
         Some(results) => line::answer(&results),
         None => line::refusal(operation.results),

@@ -26,7 +26,7 @@ fn transform_four(vector: &mut [u64])
 }
 
 // Matrix G: 16 uniform ring elements from the seed, taken as already transformed.
-fn derive_matrix(seed: &[u8], g: &mut [u64])
+pub fn derive_matrix(seed: &[u8], g: &mut [u64])
     requires { ⌜ length (now g) ≡ 1024 ⌝ }
     ensures { λ _. ⌜ now (g .exit) ≡ G (now (seed .entry)) ⌝ }
 {
