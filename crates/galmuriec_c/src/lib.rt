@@ -160,8 +160,8 @@ pub extern "C" fn galmuriec_ring_add(
     out: &mut [u64],
     refusal: &mut [u64; 3],
 ) -> u64
-    ensures { λ r. ⌜ Fills (judged (asks.ring-add (now (lhs .entry)) (now (rhs .entry)) (length (now (out .entry))))) r (now (refusal .exit)) (now (out .entry)) (now (out .exit))
-        (plus 64 (now (lhs .entry)) (now (rhs .entry))) ⌝ }
+    ensures { λ r. ⌜ Fills (judged (asks.ring-add (now (lhs .entry)) (now (rhs .entry)) (length (now (out .entry))))) r
+        (now (refusal .exit)) (now (out .entry)) (now (out .exit)) (plus 64 (now (lhs .entry)) (now (rhs .entry))) ⌝ }
 {
     report(galmuriec::ring::add(lhs, rhs, out), refusal)
 }
@@ -173,8 +173,8 @@ pub extern "C" fn galmuriec_ring_sub(
     out: &mut [u64],
     refusal: &mut [u64; 3],
 ) -> u64
-    ensures { λ r. ⌜ Fills (judged (asks.ring-sub (now (lhs .entry)) (now (rhs .entry)) (length (now (out .entry))))) r (now (refusal .exit)) (now (out .entry)) (now (out .exit))
-        (minus 64 (now (lhs .entry)) (now (rhs .entry))) ⌝ }
+    ensures { λ r. ⌜ Fills (judged (asks.ring-sub (now (lhs .entry)) (now (rhs .entry)) (length (now (out .entry))))) r
+        (now (refusal .exit)) (now (out .entry)) (now (out .exit)) (minus 64 (now (lhs .entry)) (now (rhs .entry))) ⌝ }
 {
     report(galmuriec::ring::sub(lhs, rhs, out), refusal)
 }
@@ -186,8 +186,8 @@ pub extern "C" fn galmuriec_ring_mul(
     out: &mut [u64],
     refusal: &mut [u64; 3],
 ) -> u64
-    ensures { λ r. ⌜ Fills (judged (asks.ring-mul (now (lhs .entry)) (now (rhs .entry)) (length (now (out .entry))))) r (now (refusal .exit)) (now (out .entry)) (now (out .exit))
-        (product (now (lhs .entry)) (now (rhs .entry))) ⌝ }
+    ensures { λ r. ⌜ Fills (judged (asks.ring-mul (now (lhs .entry)) (now (rhs .entry)) (length (now (out .entry))))) r
+        (now (refusal .exit)) (now (out .entry)) (now (out .exit)) (product (now (lhs .entry)) (now (rhs .entry))) ⌝ }
 {
     report(galmuriec::ring::mul(lhs, rhs, out), refusal)
 }
@@ -199,8 +199,8 @@ pub extern "C" fn galmuriec_matrix_times_column(
     out: &mut [u64],
     refusal: &mut [u64; 3],
 ) -> u64
-    ensures { λ r. ⌜ Fills (judged (asks.matrix-times-column (now (lhs .entry)) (now (rhs .entry)) (length (now (out .entry))))) r (now (refusal .exit)) (now (out .entry)) (now (out .exit))
-        (matrix 4 4 1 (now (lhs .entry)) (now (rhs .entry))) ⌝ }
+    ensures { λ r. ⌜ Fills (judged (asks.matrix-times-column (now (lhs .entry)) (now (rhs .entry)) (length (now (out .entry))))) r
+        (now (refusal .exit)) (now (out .entry)) (now (out .exit)) (matrix 4 4 1 (now (lhs .entry)) (now (rhs .entry))) ⌝ }
 {
     report(
         galmuriec::matrix::matrix_times_column(lhs, rhs, out),
@@ -215,8 +215,8 @@ pub extern "C" fn galmuriec_row_times_matrix(
     out: &mut [u64],
     refusal: &mut [u64; 3],
 ) -> u64
-    ensures { λ r. ⌜ Fills (judged (asks.row-times-matrix (now (lhs .entry)) (now (rhs .entry)) (length (now (out .entry))))) r (now (refusal .exit)) (now (out .entry)) (now (out .exit))
-        (matrix 1 4 4 (now (lhs .entry)) (now (rhs .entry))) ⌝ }
+    ensures { λ r. ⌜ Fills (judged (asks.row-times-matrix (now (lhs .entry)) (now (rhs .entry)) (length (now (out .entry))))) r
+        (now (refusal .exit)) (now (out .entry)) (now (out .exit)) (matrix 1 4 4 (now (lhs .entry)) (now (rhs .entry))) ⌝ }
 {
     report(galmuriec::matrix::row_times_matrix(lhs, rhs, out), refusal)
 }
@@ -228,8 +228,8 @@ pub extern "C" fn galmuriec_row_times_column(
     out: &mut [u64],
     refusal: &mut [u64; 3],
 ) -> u64
-    ensures { λ r. ⌜ Fills (judged (asks.row-times-column (now (lhs .entry)) (now (rhs .entry)) (length (now (out .entry))))) r (now (refusal .exit)) (now (out .entry)) (now (out .exit))
-        (matrix 1 4 1 (now (lhs .entry)) (now (rhs .entry))) ⌝ }
+    ensures { λ r. ⌜ Fills (judged (asks.row-times-column (now (lhs .entry)) (now (rhs .entry)) (length (now (out .entry))))) r
+        (now (refusal .exit)) (now (out .entry)) (now (out .exit)) (matrix 1 4 1 (now (lhs .entry)) (now (rhs .entry))) ⌝ }
 {
     report(galmuriec::matrix::row_times_column(lhs, rhs, out), refusal)
 }
@@ -257,8 +257,8 @@ pub extern "C" fn galmuriec_sample_short(
     out: &mut [u64],
     refusal: &mut [u64; 3],
 ) -> u64
-    ensures { λ r. ⌜ Fills (judged (asks.sample-short (length (now (randomness .entry))) (length (now (out .entry))))) r (now (refusal .exit)) (now (out .entry)) (now (out .exit))
-        (shorts ones 64 (now (randomness .entry))) ⌝ }
+    ensures { λ r. ⌜ Fills (judged (asks.sample-short (length (now (randomness .entry))) (length (now (out .entry))))) r
+        (now (refusal .exit)) (now (out .entry)) (now (out .exit)) (shorts ones 64 (now (randomness .entry))) ⌝ }
 {
     report(galmuriec::lanes::sample_short(randomness, out), refusal)
 }
@@ -269,16 +269,16 @@ pub extern "C" fn galmuriec_sample_uniform(
     out: &mut [u64],
     refusal: &mut [u64; 3],
 ) -> u64
-    ensures { λ r. ⌜ Fills (judged (asks.sample-uniform (length (now (randomness .entry))) (length (now (out .entry))))) r (now (refusal .exit)) (now (out .entry)) (now (out .exit))
-        (uniforms 64 (now (randomness .entry))) ⌝ }
+    ensures { λ r. ⌜ Fills (judged (asks.sample-uniform (length (now (randomness .entry))) (length (now (out .entry))))) r
+        (now (refusal .exit)) (now (out .entry)) (now (out .exit)) (uniforms 64 (now (randomness .entry))) ⌝ }
 {
     report(galmuriec::lanes::sample_uniform(randomness, out), refusal)
 }
 
 #[no_mangle]
 pub extern "C" fn galmuriec_embed_msg(msg: &[u8], out: &mut [u64], refusal: &mut [u64; 3]) -> u64
-    ensures { λ r. ⌜ Fills (judged (asks.embed-msg (length (now (msg .entry))) (length (now (out .entry))))) r (now (refusal .exit)) (now (out .entry)) (now (out .exit))
-        (embed (now (msg .entry))) ⌝ }
+    ensures { λ r. ⌜ Fills (judged (asks.embed-msg (length (now (msg .entry))) (length (now (out .entry))))) r
+        (now (refusal .exit)) (now (out .entry)) (now (out .exit)) (embed (now (msg .entry))) ⌝ }
 {
     report(galmuriec::lanes::embed_msg(msg, out), refusal)
 }
@@ -289,8 +289,8 @@ pub extern "C" fn galmuriec_extract_msg(
     out: &mut [u8],
     refusal: &mut [u64; 3],
 ) -> u64
-    ensures { λ r. ⌜ Fills (judged (asks.extract-msg (now (embedding .entry)) (length (now (out .entry))))) r (now (refusal .exit)) (now (out .entry)) (now (out .exit))
-        (extract (now (embedding .entry))) ⌝ }
+    ensures { λ r. ⌜ Fills (judged (asks.extract-msg (now (embedding .entry)) (length (now (out .entry))))) r
+        (now (refusal .exit)) (now (out .entry)) (now (out .exit)) (extract (now (embedding .entry))) ⌝ }
 {
     report(galmuriec::lanes::extract_msg(embedding, out), refusal)
 }
@@ -302,8 +302,8 @@ pub extern "C" fn galmuriec_shake256(
     output: &mut [u8],
     refusal: &mut [u64; 3],
 ) -> u64
-    ensures { λ r. ⌜ Fills (judged (asks.shake256 (length (now (message .entry))) (length (now (output .entry))))) r (now (refusal .exit)) (now (output .entry)) (now (output .exit))
-        (shake256 (now (message .entry)) (length (now (output .entry)))) ⌝ }
+    ensures { λ r. ⌜ Fills (judged (asks.shake256 (length (now (message .entry))) (length (now (output .entry))))) r
+        (now (refusal .exit)) (now (output .entry)) (now (output .exit)) (shake256 (now (message .entry)) (length (now (output .entry)))) ⌝ }
 {
     report(galmuriec::hash::shake256(message, output), refusal)
 }
@@ -314,8 +314,8 @@ pub extern "C" fn galmuriec_sha3_256(
     output: &mut [u8],
     refusal: &mut [u64; 3],
 ) -> u64
-    ensures { λ r. ⌜ Fills (judged (asks.sha3-256 (length (now (message .entry))) (length (now (output .entry))))) r (now (refusal .exit)) (now (output .entry)) (now (output .exit))
-        (sha3-256 (now (message .entry))) ⌝ }
+    ensures { λ r. ⌜ Fills (judged (asks.sha3-256 (length (now (message .entry))) (length (now (output .entry))))) r
+        (now (refusal .exit)) (now (output .entry)) (now (output .exit)) (sha3-256 (now (message .entry))) ⌝ }
 {
     report(galmuriec::hash::sha3_256(message, output), refusal)
 }
@@ -328,10 +328,10 @@ pub extern "C" fn galmuriec_keygen(
     public: &mut [u8],
     refusal: &mut [u64; 3],
 ) -> u64
-    ensures { λ r. ⌜ Fills (judged (asks.keygen (length (now (randomness .entry))) (length (now (secret .entry))) (length (now (public .entry))))) r (now (refusal .exit)) (now (secret .entry)) (now (secret .exit))
-        (packets.keygen ones (now (randomness .entry)) .secret)
-        × Fills (judged (asks.keygen (length (now (randomness .entry))) (length (now (secret .entry))) (length (now (public .entry))))) r (now (refusal .exit)) (now (public .entry)) (now (public .exit))
-        (public-bytes (packets.keygen ones (now (randomness .entry)) .public)) ⌝ }
+    ensures { λ r. ⌜ Fills (judged (asks.keygen (length (now (randomness .entry))) (length (now (secret .entry))) (length (now (public .entry))))) r
+        (now (refusal .exit)) (now (secret .entry)) (now (secret .exit)) (packets.keygen ones (now (randomness .entry)) .secret)
+        × Fills (judged (asks.keygen (length (now (randomness .entry))) (length (now (secret .entry))) (length (now (public .entry))))) r
+        (now (refusal .exit)) (now (public .entry)) (now (public .exit)) (public-bytes (packets.keygen ones (now (randomness .entry)) .public)) ⌝ }
 {
     report(galmuriec::kem::keygen(randomness, secret, public), refusal)
 }
@@ -344,10 +344,10 @@ pub extern "C" fn galmuriec_enc(
     ciphertext: &mut [u8],
     refusal: &mut [u64; 3],
 ) -> u64
-    ensures { λ r. ⌜ Fills (judged (asks.enc (now (public .entry)) (length (now (randomness .entry))) (length (now (shared .entry))) (length (now (ciphertext .entry))))) r (now (refusal .exit)) (now (shared .entry)) (now (shared .exit))
-        (packets.enc ones (public-of (now (public .entry))) (now (randomness .entry)) .shared)
-        × Fills (judged (asks.enc (now (public .entry)) (length (now (randomness .entry))) (length (now (shared .entry))) (length (now (ciphertext .entry))))) r (now (refusal .exit)) (now (ciphertext .entry)) (now (ciphertext .exit))
-        (bytes (packets.enc ones (public-of (now (public .entry))) (now (randomness .entry)) .ciphertext)) ⌝ }
+    ensures { λ r. ⌜ Fills (judged (asks.enc (now (public .entry)) (length (now (randomness .entry))) (length (now (shared .entry))) (length (now (ciphertext .entry))))) r
+        (now (refusal .exit)) (now (shared .entry)) (now (shared .exit)) (packets.enc ones (public-of (now (public .entry))) (now (randomness .entry)) .shared)
+        × Fills (judged (asks.enc (now (public .entry)) (length (now (randomness .entry))) (length (now (shared .entry))) (length (now (ciphertext .entry))))) r
+        (now (refusal .exit)) (now (ciphertext .entry)) (now (ciphertext .exit)) (bytes (packets.enc ones (public-of (now (public .entry))) (now (randomness .entry)) .ciphertext)) ⌝ }
 {
     report(
         galmuriec::kem::enc(public, randomness, shared, ciphertext),
@@ -364,10 +364,10 @@ pub extern "C" fn galmuriec_enc_numbers(
     ciphertext: &mut [u64],
     refusal: &mut [u64; 3],
 ) -> u64
-    ensures { λ r. ⌜ Fills (judged (asks.enc-numbers (now (public .entry)) (length (now (randomness .entry))) (length (now (shared .entry))) (length (now (ciphertext .entry))))) r (now (refusal .exit)) (now (shared .entry)) (now (shared .exit))
-        (packets.enc ones (public-of (now (public .entry))) (now (randomness .entry)) .shared)
-        × Fills (judged (asks.enc-numbers (now (public .entry)) (length (now (randomness .entry))) (length (now (shared .entry))) (length (now (ciphertext .entry))))) r (now (refusal .exit)) (now (ciphertext .entry)) (now (ciphertext .exit))
-        (packets.enc ones (public-of (now (public .entry))) (now (randomness .entry)) .ciphertext) ⌝ }
+    ensures { λ r. ⌜ Fills (judged (asks.enc-numbers (now (public .entry)) (length (now (randomness .entry))) (length (now (shared .entry))) (length (now (ciphertext .entry))))) r
+        (now (refusal .exit)) (now (shared .entry)) (now (shared .exit)) (packets.enc ones (public-of (now (public .entry))) (now (randomness .entry)) .shared)
+        × Fills (judged (asks.enc-numbers (now (public .entry)) (length (now (randomness .entry))) (length (now (shared .entry))) (length (now (ciphertext .entry))))) r
+        (now (refusal .exit)) (now (ciphertext .entry)) (now (ciphertext .exit)) (packets.enc ones (public-of (now (public .entry))) (now (randomness .entry)) .ciphertext) ⌝ }
 {
     report(
         galmuriec::kem::enc_numbers(public, randomness, shared, ciphertext),
@@ -382,8 +382,9 @@ pub extern "C" fn galmuriec_dec(
     shared: &mut [u8],
     refusal: &mut [u64; 3],
 ) -> u64
-    ensures { λ r. ⌜ Fills (then (judged (asks.dec (length (now (secret .entry))) (now (ciphertext .entry)) (length (now (shared .entry))))) (opened-told (packets.dec ones (now (secret .entry)) (words (now (ciphertext .entry)))))) r (now (refusal .exit)) (now (shared .entry)) (now (shared .exit))
-        (opened-key (packets.dec ones (now (secret .entry)) (words (now (ciphertext .entry))))) ⌝ }
+    ensures { λ r. ⌜ Fills (then (judged (asks.dec (length (now (secret .entry))) (now (ciphertext .entry)) (length (now (shared .entry)))))
+        (opened-told (packets.dec ones (now (secret .entry)) (words (now (ciphertext .entry)))))) r
+        (now (refusal .exit)) (now (shared .entry)) (now (shared .exit)) (opened-key (packets.dec ones (now (secret .entry)) (words (now (ciphertext .entry))))) ⌝ }
 {
     report(galmuriec::kem::dec(secret, ciphertext, shared), refusal)
 }
@@ -396,8 +397,9 @@ pub extern "C" fn galmuriec_dec_numbers(
     shared: &mut [u8],
     refusal: &mut [u64; 3],
 ) -> u64
-    ensures { λ r. ⌜ Fills (then (judged (asks.dec-numbers (length (now (secret .entry))) (now (ciphertext .entry)) (length (now (shared .entry))))) (opened-told (packets.dec ones (now (secret .entry)) (now (ciphertext .entry))))) r (now (refusal .exit)) (now (shared .entry)) (now (shared .exit))
-        (opened-key (packets.dec ones (now (secret .entry)) (now (ciphertext .entry)))) ⌝ }
+    ensures { λ r. ⌜ Fills (then (judged (asks.dec-numbers (length (now (secret .entry))) (now (ciphertext .entry)) (length (now (shared .entry)))))
+        (opened-told (packets.dec ones (now (secret .entry)) (now (ciphertext .entry))))) r
+        (now (refusal .exit)) (now (shared .entry)) (now (shared .exit)) (opened-key (packets.dec ones (now (secret .entry)) (now (ciphertext .entry)))) ⌝ }
 {
     report(
         galmuriec::kem::dec_numbers(secret, ciphertext, shared),

@@ -8,15 +8,6 @@ ghost use Rattle.job_calls.specs.Jobs.{Writes, ten, written, is-job, key
 use judge::Answer;
 use judge::Refusal;
 
-fn copy(from: &[u8], to: &mut [u8])
-    requires { ⌜ length (now from) ≡ length (now to) ⌝ }
-    ensures { λ _. ⌜ now (to .exit) ≡ now (from .entry) ⌝ }
-{
-    for i in 0..to.len() {
-        to[i] = from[i];
-    }
-}
-
 // One byte and two parts behind it, where they fit into out; how many bytes they are.
 fn write(head: u8, first: &[u8], second: &[u8], out: &mut [u8]) -> usize
     requires { ⌜ length (now first) + length (now second) < 2593 ⌝ }
@@ -26,8 +17,8 @@ fn write(head: u8, first: &[u8], second: &[u8], out: &mut [u8]) -> usize
     let n = m + second.len();
     if n <= out.len() {
         out[0] = head;
-        copy(first, &mut out[1..m]);
-        copy(second, &mut out[m..n]);
+        codec::copy(first, &mut out[1..m]);
+        codec::copy(second, &mut out[m..n]);
     }
     n
 }

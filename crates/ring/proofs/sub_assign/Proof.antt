@@ -1,7 +1,7 @@
 -- `sub_assign` subtracts, coefficient by coefficient. Assumes nothing.
 use borrow.Author.Needs.{needs}
 use native.Mathlib.Omega.{arith}
-use Prim.Native.Nat.{ℕ, _+_, _-_, _≤_, _%_}
+use Prim.Native.Nat.{ℕ, _+_, _-_, _≤_, _<_, _%_}
 use mathlib.Core.Path.{_≡_, refl}
 use mathlib.Core.List.{List}
 use lib.ListN.{length, getD}
@@ -25,8 +25,9 @@ sub-mod-p-requires : tie.Need-sub-mod-p-requires Inv-loop μ-loop
 sub-mod-p-requires c κs =
     let l = c .before .before .before .loop in
     let start = c .before .before .before .before .before .before in
+    let a : getD (l .lhs) (l .i) 0 < P = rest-below (start .pre .0) (l .inv .2) (l .i) (omega arith) in
     let b = start .pre .1 .each (l .i) in
-    (rest-below (start .pre .0) (l .inv .2) (l .i) (omega arith), omega arith)
+    (omega arith, omega arith)
 
 loop-again : tie.Need-loop-again Inv-loop μ-loop
 loop-again c =
