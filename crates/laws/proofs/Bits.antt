@@ -1,11 +1,12 @@
--- The digits of sums of blocks, of `xor`, `and`, and of a complement. Assumes nothing.
+-- The digits of sums of blocks, of `xor`, `and`, `or`, and of a complement; what a complement does to them. Assumes nothing.
 use mathlib.Core.Path.{_≡_, refl, sym, ap, ap₂, _∙_}
 use mathlib.Core.Logic.{_⊎_, inl, inr, ⊎-elim}
 use Prim.Native.Nat.{ℕ, zero, suc, _+_, _-_, _*_, _/_, _%_, _^_, _<_, _≤_}
 use native.Mathlib.Nat.{pow-zero, pow-suc, add-comm, add-zero, not-suc-le-zero, le-of-suc-le-suc, mod-eq-of-lt, div-one, div-eq-of-lt, lt-of-lt-of-le}
 use native.Mathlib.Numerals.{add-one}
 use native.Mathlib.Omega.{arith}
-use lib.Bits.{bitXor, bitAnd, xor-lt, xor-shr, xor-mod, and-shr, and-mod, xor-add-and, and-mask, block-half, block-odd}
+use lib.Bits.{bitXor, bitAnd, bitOr, xor-comm, xor-lt, xor-shr, xor-mod, xor-add-and, and-lt, and-shr, and-mod, and-mask, or-lt, or-shr, or-mod}
+use lib.Bits.{block-half, block-odd}
 use lib.Pow.{pow-pos, pow-mono, split, high, shr-shr, ones-split}
 use Rattle.laws.specs.Bits.{bit}
 
@@ -37,6 +38,12 @@ unfolding bit
 bit-and a b z =
     ap (λ (n : ℕ). n % 2) (and-shr a b z) ∙ and-mod (a / 2 ^ z) (b / 2 ^ z) 1
     ∙ on-digits bitAnd (λ x y. x * y) refl refl refl refl (a / 2 ^ z % 2) (b / 2 ^ z % 2) (omega arith) (omega arith)
+
+pub bit-or : (a b z : ℕ) → bit (bitOr a b) z ≡ (bit a z + bit b z + bit a z * bit b z) % 2
+unfolding bit
+bit-or a b z =
+    ap (λ (n : ℕ). n % 2) (or-shr a b z) ∙ or-mod (a / 2 ^ z) (b / 2 ^ z) 1
+    ∙ on-digits bitOr (λ x y. (x + y + x * y) % 2) refl refl refl refl (a / 2 ^ z % 2) (b / 2 ^ z % 2) (omega arith) (omega arith)
 
 -- a number cut at place k: its digits above, and below
 pub bit-high : (h l k z : ℕ) → l < 2 ^ k → bit (h * 2 ^ k + l) (k + z) ≡ bit h z
@@ -114,7 +121,8 @@ unfolding bit
 bit-ext zero a b ha hb e = let p : a ≡ 0 = omega (arith, pow-zero 2) in let q : b ≡ 0 = omega (arith, pow-zero 2) in p ∙ sym q
 bit-ext (suc w) a b ha hb e =
     let half : a / 2 ≡ b / 2 =
-    bit-ext w (a / 2) (b / 2) (omega (arith, pow-suc 2 w)) (omega (arith, pow-suc 2 w)) (λ z h. sym (bit-suc a z) ∙ e (suc z) (omega arith) ∙ bit-suc b z) in
+    bit-ext w (a / 2) (b / 2) (omega (arith, pow-suc 2 w)) (omega (arith, pow-suc 2 w))
+    (λ z h. sym (bit-suc a z) ∙ e (suc z) (omega arith) ∙ bit-suc b z) in
     let low : a % 2 ≡ b % 2 = ap (λ (n : ℕ). n % 2) (sym (div-one a)) ∙ e 0 (omega arith) ∙ ap (λ (n : ℕ). n % 2) (div-one b) in
     omega arith
 
@@ -134,3 +142,25 @@ xor-assoc a b c =
   where
     sums : (x y z : ℕ) → ((x + y) % 2 + z) % 2 ≡ (x + (y + z) % 2) % 2
     sums x y z = omega arith
+
+-- a complement in w digits passes through `xor`, and turns `and` into `or`
+pub not-not : (w a : ℕ) → a < 2 ^ w → (2 ^ w - 1) - ((2 ^ w - 1) - a) ≡ a
+not-not w a h = omega arith
+
+pub not-lt : (w a : ℕ) → (2 ^ w - 1) - a < 2 ^ w
+not-lt w a = let p : 0 < 2 ^ w = pow-pos w in omega arith
+
+pub xor-not : (w a b : ℕ) → a < 2 ^ w → b < 2 ^ w → bitXor a ((2 ^ w - 1) - b) ≡ (2 ^ w - 1) - bitXor a b
+xor-not w a b ha hb = ap (bitXor a) (not-xor w b hb) ∙ sym (xor-assoc a b (2 ^ w - 1)) ∙ sym (not-xor w (bitXor a b) (xor-lt w a b ha hb))
+
+pub not-xor-left : (w a b : ℕ) → a < 2 ^ w → b < 2 ^ w → bitXor ((2 ^ w - 1) - a) b ≡ (2 ^ w - 1) - bitXor a b
+not-xor-left w a b ha hb = xor-comm _ b ∙ xor-not w b a hb ha ∙ ap (λ (n : ℕ). (2 ^ w - 1) - n) (xor-comm b a)
+
+pub or-not : (w a b : ℕ) → a < 2 ^ w → b < 2 ^ w → bitOr a ((2 ^ w - 1) - b) ≡ (2 ^ w - 1) - bitAnd ((2 ^ w - 1) - a) b
+or-not w a b ha hb =
+    let m : bitAnd ((2 ^ w - 1) - a) b < 2 ^ w = and-lt w _ b (not-lt w a) hb in
+    bit-ext w _ _ (or-lt w a _ ha (not-lt w b)) (not-lt w _)
+    (λ z h. bit-or a _ z ∙ ap (λ (n : ℕ). (bit a z + n + bit a z * n) % 2) (bit-not w b z hb h)
+    ∙ on-digits (λ x y. (x + (y + 1) % 2 + x * ((y + 1) % 2)) % 2) (λ x y. ((x + 1) % 2 * y + 1) % 2) refl refl refl refl
+    (bit a z) (bit b z) (bit-lt a z) (bit-lt b z)
+    ∙ sym (bit-not w _ z m h ∙ ap (λ (n : ℕ). (n + 1) % 2) (bit-and _ b z ∙ ap (λ (n : ℕ). n * bit b z) (bit-not w a z ha h))))

@@ -1,6 +1,7 @@
 -- Laws that the other crates cite as Rattle.laws.proofs.NAME.
 pub mod Orders
 pub mod Tests
+pub mod Arrays
 pub mod Lists
 pub mod Updates
 pub mod Parts
