@@ -6,7 +6,8 @@ use twenty_first::math::b_field_element::BFieldElement;
 use twenty_first::math::lattice::kem;
 
 use crate::hash::floor;
-use crate::timing::{COUNT, Inputs, Side, Times, by_turns, row, side};
+use crate::inputs::{COUNT, Inputs, randomness};
+use crate::timing::{Side, Times, by_turns, row, side};
 
 unsafe extern "C" {
     fn bench_keygen(randomness: *const u8, secret: *mut u8, public: *mut u8);
@@ -47,11 +48,6 @@ fn values(packet: kem::Ciphertext) -> [u64; 320] {
 
 fn rust_packet(ciphertext: [u64; 320]) -> kem::Ciphertext {
     ciphertext.map(BFieldElement::new).into()
-}
-
-pub fn randomness(seed: u64) -> [u8; 32] {
-    let byte = |i: u64| seed.wrapping_mul(6364136223846793005).wrapping_add(i * i) >> (i % 8);
-    std::array::from_fn(|i| byte(i as u64) as u8)
 }
 
 fn damaged(mut ciphertext: [u64; 320]) -> [u64; 320] {

@@ -1,6 +1,7 @@
 //! Times the proved code beside others: in turn, in one run, least and median, in microseconds. Then says which targets are met.
 
 mod hash;
+mod inputs;
 mod kem;
 mod ring;
 mod timing;

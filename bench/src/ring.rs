@@ -7,8 +7,8 @@ use twenty_first::math::lattice::{CyclotomicRingElement, ModuleElement};
 use twenty_first::math::lattice::{coset_intt_noswap_64, coset_ntt_noswap_64};
 
 use crate::hash::rust_shake256;
-use crate::kem::randomness;
-use crate::timing::{COUNT, Inputs, compare, side};
+use crate::inputs::{COUNT, Inputs, numbers, randomness};
+use crate::timing::{compare, side};
 
 unsafe extern "C" {
     fn bench_ntt(array: *mut u64);
@@ -66,17 +66,6 @@ fn rust_derive_matrix(seed: &[u8; 32]) -> ModuleElement<16> {
     let mut randomness = [0; 9216];
     rust_shake256(seed, &mut randomness);
     ModuleElement::<16>::sample_uniform(&randomness)
-}
-
-/// Numbers below p that fill all 64 bits, another list for each seed.
-fn numbers<const N: usize>(seed: u64) -> [u64; N] {
-    let mut x = seed;
-    std::array::from_fn(|_| {
-        x = x
-            .wrapping_mul(6364136223846793005)
-            .wrapping_add(1442695040888963407);
-        (x ^ x >> 29) % BFieldElement::P
-    })
 }
 
 fn values(array: [BFieldElement; 64]) -> [u64; 64] {

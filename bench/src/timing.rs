@@ -61,23 +61,3 @@ pub fn compare(what: &str, beside: &str, sides: [Side; 2]) {
     let [ours, theirs] = by_turns(sides);
     row(what, beside, ours, theirs);
 }
-
-pub const COUNT: u64 = 1024;
-
-/// Another input at each call, of so many that a processor cannot learn the branches that each of them takes.
-pub struct Inputs<T> {
-    all: Vec<T>,
-    next: usize,
-}
-
-impl<T> Inputs<T> {
-    pub fn new(make: impl Fn(u64) -> T) -> Self {
-        let all = (0..COUNT).map(make).collect();
-        Inputs { all, next: 0 }
-    }
-
-    pub fn next(&mut self) -> &T {
-        self.next = (self.next + 1) % self.all.len();
-        black_box(&self.all[self.next])
-    }
-}
