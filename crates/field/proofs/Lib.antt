@@ -4,3 +4,4 @@ pub mod Elements
 pub mod Inverses
 pub mod Halves
 pub mod Reduction
+pub mod Sums

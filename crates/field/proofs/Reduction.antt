@@ -2,19 +2,14 @@
 -- high half xh. Assumes nothing.
 use mathlib.Core.Path.{_≡_, refl, sym, ap, _∙_, subst}
 use mathlib.Core.List.{List, [], _∷_}
-use mathlib.Core.Logic.{_⊎_, inl, inr}
 use Prim.Native.Nat.{ℕ, zero, suc, _+_, _*_, _-_, _/_, _%_, _^_, _≤_, _<_}
 use native.Mathlib.Nat.{mod-eq-of-lt, mod-lt, div-add-mod', add-mul-mod-self-right, add-right-comm, lt-of-le-of-lt}
 use native.Mathlib.Omega.{arith}
 use lib.Dec.{lit<}
 use lib.Pow.{mod-mod-pow}
 use Rattle.laws.proofs.ModularSolver.{mod-ring, at, lit, neg, _⊞_, _⊠_}
-use Rattle.laws.proofs.Wrapping.{carry₀, carry₁, borrow₀}
+use Rattle.laws.proofs.Wrapping.{Carried, carry-small, carried, borrow₀}
 use Rattle.field.specs.Field.{P, R2, reduced, wide}
-
--- the carry that the wrapping sum lost is what the comparison says
-abbrev pub Carried : ℕ → ℕ → ℕ → Type 0
-Carried xl a e = ((a < xl) × (e ≡ 1)) ⊎ ((xl ≤ a) × (e ≡ 0))
 
 -- a shift by half a word drops the high half
 shifted : (n : ℕ) → n * 2 ^ 32 % 2 ^ 64 ≡ n % 2 ^ 32 * 2 ^ 32
@@ -33,17 +28,7 @@ module _ (xl a e : ℕ) (hx : xl < 2 ^ 64) (ha : a ≡ (xl + xl * 2 ^ 32 % 2 ^ 6
       ap (λ (n : ℕ). n % 2 ^ 32) a-is ∙ mod-mod-pow (xl + xl % 2 ^ 32 * 2 ^ 32) 32 32 ∙ add-mul-mod-self-right xl (xl % 2 ^ 32) (2 ^ 32)
 
   sum-is : xl + a % 2 ^ 32 * 2 ^ 32 ≡ a + e * 2 ^ 64
-  sum-is = ap (λ (n : ℕ). xl + n * 2 ^ 32) same-low ∙ by came
-    where
-      counted : (n k : ℕ) → e ≡ k → n + k * 2 ^ 64 ≡ n + e * 2 ^ 64
-      counted n k h = ap (λ (m : ℕ). n + m * 2 ^ 64) (sym h)
-
-      by : Carried xl a e → xl + xl % 2 ^ 32 * 2 ^ 32 ≡ a + e * 2 ^ 64
-      by (inl w) = sym (carry₁ (2 ^ 64) xl (xl % 2 ^ 32 * 2 ^ 32) a hx (shifted-fits xl) a-is (w .0)) ∙ counted a 1 (w .1)
-      by (inr w) = sym (carry₀ (2 ^ 64) xl (xl % 2 ^ 32 * 2 ^ 32) a hx (shifted-fits xl) a-is (w .0)) ∙ counted-0 (w .1)
-        where
-          counted-0 : e ≡ 0 → a ≡ a + e * 2 ^ 64
-          counted-0 h = omega arith
+  sum-is = ap (λ (n : ℕ). xl + n * 2 ^ 32) same-low ∙ sym (carried (2 ^ 64) xl (xl % 2 ^ 32 * 2 ^ 32) a e hx (shifted-fits xl) a-is came)
 
 -- the carry is taken from what is left of a without its high half, and there is enough
 enough : (xl a e t : ℕ) → xl < 2 ^ 64 → e ≤ 1 → xl + a % 2 ^ 32 * 2 ^ 32 ≡ a + e * 2 ^ 64 → t + a / 2 ^ 32 ≡ a → e ≤ t
@@ -79,13 +64,6 @@ pub record Steps (xl a e t b : ℕ) : Type 0 where
   pub second-fits : b < 2 ^ 64
 
 module _ {xl a e t b : ℕ} (s : Steps xl a e t b) where
-  carry-small : e ≤ 1
-  carry-small = by (s .carry)
-    where
-      by : Carried xl a e → e ≤ 1
-      by (inl w) = omega arith
-      by (inr w) = omega arith
-
   a-fits : a < 2 ^ 64
   a-fits = subst (λ (n : ℕ). n < 2 ^ 64) (sym (s .sum)) (mod-lt (xl + xl * 2 ^ 32 % 2 ^ 64) (lit< tt))
 
@@ -100,8 +78,8 @@ module _ {xl a e t b : ℕ} (s : Steps xl a e t b) where
 
   b-is : b + e ≡ t
   b-is =
-      borrow₀ (2 ^ 64) t e b (lt-of-le-of-lt carry-small (lit< tt)) (s .second-fits) (s .second)
-      (enough xl a e t (s .low) carry-small whole-sum t-is)
+      borrow₀ (2 ^ 64) t e b (lt-of-le-of-lt (carry-small (s .carry)) (lit< tt)) (s .second-fits) (s .second)
+      (enough xl a e t (s .low) (carry-small (s .carry)) whole-sum t-is)
 
   taken : b + a / 2 ^ 32 + e ≡ a
   taken = add-right-comm b (a / 2 ^ 32) e ∙ ap (λ (n : ℕ). n + a / 2 ^ 32) b-is ∙ t-is

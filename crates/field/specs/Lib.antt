@@ -1,3 +1,4 @@
 -- What the field's contracts are written with.
 pub mod Field
 pub mod Element
+pub mod Sums

@@ -3,6 +3,7 @@ ghost use mathlib.Core.Path.{_≡_};
 ghost use Prim.Native.Nat.{_+_, _*_, _-_, _/_, _%_, _^_, _<_, _≤_};
 ghost use Rattle.field.specs.Field.{P, reduced, wide};
 ghost use Rattle.field.specs.Element.{Good, num, Stands, inverted};
+ghost use Rattle.field.specs.Sums.{amount, carries};
 
 // A number of 128 bits in two halves.
 struct Wide {
@@ -46,11 +47,11 @@ fn product(a: u64, b: u64) -> Wide
     }
 }
 
-// The difference modulo p, for b at most p. The borrow that the wrapping difference loses is recovered by a comparison;
-// taken by an `if` over both results it becomes one conditional move, also in the sum.
-pub fn sub_mod_p(a: u64, b: u64) -> u64
-    requires { ⌜ (a < P) × (b ≤ P) ⌝ }
-    ensures { λ r. ⌜ (r ≡ (a + (P - b)) % P) × (r < P) ⌝ }
+// The difference modulo p, for b at most p; it is canonical where a is. The borrow that the wrapping difference loses is
+// recovered by a comparison; taken by an `if` over both results it becomes one conditional move, also in the sum.
+fn sub_lazy(a: u64, b: u64) -> u64
+    requires { ⌜ b ≤ P ⌝ }
+    ensures { λ r. ⌜ (r % P ≡ (a + (P - b)) % P) × (a < P → r < P) ⌝ }
 {
     let x = std::num::wrapping_sub_u64(a, b);
     if a < b {
@@ -58,6 +59,37 @@ pub fn sub_mod_p(a: u64, b: u64) -> u64
     } else {
         x
     }
+}
+
+// The sum modulo p of any number and one of at most p, not canonical: 2^64, which a wrapping sum loses, is 2^32 - 1.
+pub fn add_lazy(a: u64, b: u64) -> u64
+    requires { ⌜ b ≤ P ⌝ }
+    ensures { λ r. ⌜ r % P ≡ (a + b) % P ⌝ }
+{
+    let x = std::num::wrapping_add_u64(a, b);
+    if x < b {
+        std::num::wrapping_add_u64(x, 0xffff_ffff)
+    } else {
+        x
+    }
+}
+
+// The remainder modulo p: p is taken off once at most, as 2^64 is below 2p.
+pub fn canonical(x: u64) -> u64
+    ensures { λ r. ⌜ (r ≡ x % P) × (r < P) ⌝ }
+{
+    if x < BFieldElement::P {
+        x
+    } else {
+        x - BFieldElement::P
+    }
+}
+
+pub fn sub_mod_p(a: u64, b: u64) -> u64
+    requires { ⌜ (a < P) × (b ≤ P) ⌝ }
+    ensures { λ r. ⌜ (r ≡ (a + (P - b)) % P) × (r < P) ⌝ }
+{
+    sub_lazy(a, b)
 }
 
 // The sum modulo p: a + b is a - (p - b).
@@ -87,6 +119,52 @@ fn reduced_product(a: u64, b: u64) -> u64
     ensures { λ r. ⌜ (r ≡ reduced (a * b)) × (r < P) ⌝ }
 {
     montyred(product(a, b))
+}
+
+// A sum of products of plain numbers, top 2^128 + hi 2^64 + lo, to be reduced once. Made and read only through its functions.
+pub struct SumOfProducts {
+    lo: u64,
+    hi: u64,
+    top: u64,
+}
+
+pub fn first_product(a: u64, b: u64) -> SumOfProducts
+    ensures { λ r. ⌜ (amount r ≡ a * b) × (carries r ≡ 0) ⌝ }
+{
+    let x = product(a, b);
+    SumOfProducts {
+        lo: x.lo,
+        hi: x.hi,
+        top: 0,
+    }
+}
+
+// One product more. A carry read off a comparison with what was added becomes an add with carry.
+pub fn plus_product(s: SumOfProducts, a: u64, b: u64) -> SumOfProducts
+    requires { ⌜ carries s < 2 ^ 64 - 1 ⌝ }
+    ensures { λ r. ⌜ (amount r ≡ amount s + a * b) × (carries r ≤ carries s + 1) ⌝ }
+{
+    let x = product(a, b);
+    let lo = std::num::wrapping_add_u64(x.lo, s.lo);
+    let c = if lo < x.lo { 1 } else { 0 };
+    let h = x.hi + c;
+    let hi = std::num::wrapping_add_u64(h, s.hi);
+    let d = if hi < h { 1 } else { 0 };
+    SumOfProducts {
+        lo: lo,
+        hi: hi,
+        top: s.top + d,
+    }
+}
+
+// The sum modulo p: 2^64 is 2^32 - 1, 2^96 is -1 and 2^128 is -2^32.
+pub fn sum_mod_p(s: SumOfProducts) -> u64
+    requires { ⌜ carries s < 2 ^ 32 - 1 ⌝ }
+    ensures { λ r. ⌜ (r ≡ amount s % P) × (r < P) ⌝ }
+{
+    let down = s.hi / 0x1_0000_0000 + s.top * 0x1_0000_0000;
+    let up = s.hi % 0x1_0000_0000 * 0xffff_ffff;
+    canonical(add_lazy(sub_lazy(s.lo, down), up))
 }
 
 // A field element: its Montgomery word, made and read only through its functions.

@@ -1,5 +1,6 @@
 -- Sums and differences that wrap at M: what a comparison says of the carry or borrow that was lost. Assumes nothing.
 use mathlib.Core.Path.{_≡_, refl, sym, ap, _∙_, subst}
+use mathlib.Core.Logic.{_⊎_, inl, inr}
 use Prim.Native.Nat.{ℕ, zero, suc, _+_, _*_, _/_, _%_, _≤_, _<_}
 use native.Mathlib.Nat.{div-add-mod', mod-lt, add-comm}
 use native.Mathlib.Omega.{arith}
@@ -33,3 +34,15 @@ carry₀ M x y s hx hy e h =
 -- a difference r = x - y has not borrowed where y is at most x
 pub borrow₀ : (M x y r : ℕ) → y < M → r < M → (r + y) % M ≡ x → y ≤ x → r + y ≡ x
 borrow₀ M x y r hy hr e h = add-comm r y ∙ sym (carry₀ M y r x hy hr (sym e ∙ ap (λ (n : ℕ). n % M) (add-comm r y)) h)
+
+-- e is the carry that a sum s lost, read off its comparison with the summand x
+abbrev pub Carried : ℕ → ℕ → ℕ → Type 0
+Carried x s e = ((s < x) × (e ≡ 1)) ⊎ ((x ≤ s) × (e ≡ 0))
+
+pub carry-small : {x s e : ℕ} → Carried x s e → e ≤ 1
+carry-small (inl w) = omega arith
+carry-small (inr w) = omega arith
+
+pub carried : (M x y s e : ℕ) → x < M → y < M → s ≡ (x + y) % M → Carried x s e → s + e * M ≡ x + y
+carried M x y s e hx hy h (inl w) = omega (arith, carry₁ M x y s hx hy h (w .0), ap (λ (n : ℕ). n * M) (w .1))
+carried M x y s e hx hy h (inr w) = omega (arith, carry₀ M x y s hx hy h (w .0), ap (λ (n : ℕ). n * M) (w .1))

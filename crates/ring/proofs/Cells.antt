@@ -1,9 +1,11 @@
 -- The elements of a flat list of ring elements. Assumes nothing.
-use mathlib.Core.Path.{_≡_, sym, _∙_, ap}
+use mathlib.Core.Path.{_≡_, sym, _∙_, ap, subst}
 use mathlib.Core.List.{List}
 use Prim.Native.Nat.{ℕ, _+_, _*_, _-_, _/_, _%_, _≤_, _<_}
 use native.Mathlib.Omega.{arith}
-use lib.ListN.{length, getD}
+use native.Mathlib.Decide.{ℕ-discrete}
+use lib.ListN.{length, getD, set, length-set}
+use lib.Seq.{getD-set-same, getD-set-other}
 use Rattle.laws.proofs.Lists.{getD-tab, is-tab, tab-ext}
 use Rattle.laws.proofs.Bounds.{tab-below}
 use Rattle.field.specs.Field.{P, Coefficients}
@@ -60,9 +62,45 @@ module _ (m : ℕ) (u w : List ℕ) (i : ℕ) (h : i * 64 + 64 ≤ m) where
   pub cell-plus : cell (plus m u w) i ≡ plus 64 (cell u i) (cell w i)
   unfolding cell plus
   cell-plus = tab-ext 64 _ _ (λ k g.
-      getD-tab m (λ x. (getD u x 0 + getD w x 0) % P) 0 (i * 64 + k) (omega arith) ∙ (λ j. (sym (cell-at u i k g) j + sym (cell-at w i k g) j) % P))
+      getD-tab m (λ x. (getD u x 0 + getD w x 0) % P) 0 (i * 64 + k) (omega arith)
+      ∙ (λ j. (sym (cell-at u i k g) j + sym (cell-at w i k g) j) % P))
 
   pub cell-minus : cell (minus m u w) i ≡ minus 64 (cell u i) (cell w i)
   unfolding cell minus
   cell-minus = tab-ext 64 _ _ (λ k g.
-      getD-tab m (λ x. (getD u x 0 + (P - getD w x 0)) % P) 0 (i * 64 + k) (omega arith) ∙ (λ j. (sym (cell-at u i k g) j + (P - sym (cell-at w i k g) j)) % P))
+      getD-tab m (λ x. (getD u x 0 + (P - getD w x 0)) % P) 0 (i * 64 + k) (omega arith)
+      ∙ (λ j. (sym (cell-at u i k g) j + (P - sym (cell-at w i k g) j)) % P))
+
+-- ---- elements stored one after another, place after place: n of the places of count elements are there
+pub record Flattened (f : ℕ → List ℕ) (count n : ℕ) (l : List ℕ) : Type 0 where
+  pub size : length l ≡ count * 64
+  pub passed : (x : ℕ) → x < n → getD l x 0 ≡ getD (f (x / 64)) (x % 64) 0
+
+module _ {f : ℕ → List ℕ} {count : ℕ} {l : List ℕ} where
+  pub flattened-none : length l ≡ count * 64 → Flattened f count 0 l
+  flattened-none h = record { size = h; passed = λ x q. absurd (omega arith) }
+
+  pub flattened-at : {m n : ℕ} → m ≡ n → Flattened f count m l → Flattened f count n l
+  flattened-at e = subst (λ n. Flattened f count n l) e
+
+  -- place k of element i
+  pub flattened-more : (i k v : ℕ) → i < count → k < 64 → v ≡ getD (f i) k 0 → Flattened f count (i * 64 + k) l
+      → Flattened f count (i * 64 + (k + 1)) (set l (i * 64 + k) v)
+  flattened-more i k v hi hk e c = record {
+    size = length-set l (i * 64 + k) v ∙ c .size;
+    passed = λ x q. at x q (ℕ-discrete x (i * 64 + k));
+  }
+    where
+      here : getD (set l (i * 64 + k) v) (i * 64 + k) 0 ≡ getD (f ((i * 64 + k) / 64)) ((i * 64 + k) % 64) 0
+      here =
+          let d : i ≡ (i * 64 + k) / 64 = omega arith in
+          let o : k ≡ (i * 64 + k) % 64 = omega arith in
+          getD-set-same l (i * 64 + k) v 0 (omega (arith, c .size)) ∙ e ∙ (λ j. getD (f (d j)) (o j) 0)
+
+      at : (x : ℕ) → x < i * 64 + (k + 1) → Dec (x ≡ i * 64 + k) → getD (set l (i * 64 + k) v) x 0 ≡ getD (f (x / 64)) (x % 64) 0
+      at x q (yes y) = subst (λ n. getD (set l (i * 64 + k) v) n 0 ≡ getD (f (n / 64)) (n % 64) 0) (sym y) here
+      at x q (no y) = getD-set-other l (i * 64 + k) x v 0 y ∙ c .passed x (omega arith)
+
+  pub flattened-all : (n : ℕ) → n ≡ count → Flattened f count (n * 64) l → l ≡ flat count f
+  unfolding flat
+  flattened-all n e c = is-tab (count * 64) (λ x. getD (f (x / 64)) (x % 64) 0) 0 l (c .size) (λ x h. c .passed x (omega arith))

@@ -11,4 +11,4 @@ pub mod Blocks
 pub mod Forward
 pub mod Tables
 pub mod Backward
-pub mod Columns
+pub mod Dots

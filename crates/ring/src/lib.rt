@@ -328,29 +328,24 @@ pub fn hadamard(lhs: &[u64], rhs: &[u64], out: &mut [u64])
     hadamard_assign(out, rhs);
 }
 
-// Four coefficients of a vector as field elements, to be multiplied by several plain numbers each.
-struct Words {
-    w0: BFieldElement,
-    w1: BFieldElement,
-    w2: BFieldElement,
-    w3: BFieldElement,
-}
-
-// Their products with the coefficients of a matrix that stand at at, at + step, at + 2 step and at + 3 step, added up.
-fn combined(words: Words, matrix: &[u64], at: usize, step: usize) -> u64
-    requires { ⌜ Good (words .w0) × Good (words .w1) × Good (words .w2) × Good (words .w3) × (at + 3 * step < length (now matrix)) ⌝ }
-    ensures { λ r. ⌜ r ≡ (num (words .w0) * getD (now (matrix .entry)) at 0 + num (words .w1) * getD (now (matrix .entry)) (at + step) 0
-        + num (words .w2) * getD (now (matrix .entry)) (at + 2 * step) 0 + num (words .w3) * getD (now (matrix .entry)) (at + 3 * step) 0) % P ⌝ }
+// Place k of four elements times the coefficients of a matrix that stand at at, at + step, at + 2 step and at + 3 step, added
+// up: the four products are reduced once.
+fn combined(vector: &[u64], k: usize, matrix: &[u64], at: usize, step: usize) -> u64
+    requires { ⌜ (192 + k < length (now vector)) × (at + 3 * step < length (now matrix)) ⌝ }
+    ensures { λ r. ⌜ r ≡ (getD (now (vector .entry)) k 0 * getD (now (matrix .entry)) at 0
+        + getD (now (vector .entry)) (64 + k) 0 * getD (now (matrix .entry)) (at + step) 0
+        + getD (now (vector .entry)) (128 + k) 0 * getD (now (matrix .entry)) (at + 2 * step) 0
+        + getD (now (vector .entry)) (192 + k) 0 * getD (now (matrix .entry)) (at + 3 * step) 0) % P ⌝ }
 {
-    let a = words.w0.scaled(matrix[at]);
-    let b = words.w1.scaled(matrix[at + step]);
-    let c = words.w2.scaled(matrix[at + 2 * step]);
-    let d = words.w3.scaled(matrix[at + 3 * step]);
-    field::add_mod_p(field::add_mod_p(a, b), field::add_mod_p(c, d))
+    let a = field::first_product(vector[k], matrix[at]);
+    let b = field::plus_product(a, vector[64 + k], matrix[at + step]);
+    let c = field::plus_product(b, vector[128 + k], matrix[at + 2 * step]);
+    let d = field::plus_product(c, vector[192 + k], matrix[at + 3 * step]);
+    field::sum_mod_p(d)
 }
 
 // A vector of four ring elements times a matrix: element e of out is the sum over q of vector element q times matrix element
-// e·row + q·step. Each coefficient of the vector becomes a field element once, for all of out.
+// e·row + q·step.
 fn vector_times(
     vector: &[u64],
     matrix: &[u64],
@@ -363,15 +358,9 @@ fn vector_times(
     requires { ⌜ (count * row + 3 * step + 1) * 64 ≤ length (now matrix) + row * 64 ⌝ }
     ensures { λ r. ⌜ now (out .exit) ≡ flat count (λ e. dot 4 (cell (now (vector .entry))) (λ q. cell (now (matrix .entry)) (e * row + q * step))) ⌝ }
 {
-    'places: for k in 0..64 {
-        let words = Words {
-            w0: BFieldElement::new(vector[k]),
-            w1: BFieldElement::new(vector[64 + k]),
-            w2: BFieldElement::new(vector[128 + k]),
-            w3: BFieldElement::new(vector[192 + k]),
-        };
-        'elements: for e in 0..count {
-            out[e * 64 + k] = combined(words, matrix, e * row * 64 + k, step * 64);
+    'elements: for e in 0..count {
+        'places: for k in 0..64 {
+            out[e * 64 + k] = combined(vector, k, matrix, e * row * 64 + k, step * 64);
         }
     }
 }

@@ -1,12 +1,13 @@
--- `vector_times` makes each element of its result, place by place. Assumes nothing.
+-- `vector_times` makes its result element after element, place after place. Assumes nothing.
 use borrow.Author.Needs.{needs}
 use native.Mathlib.Omega.{arith}
 use Prim.Native.Nat.{ℕ, _+_, _*_, _-_, _≤_}
 use mathlib.Core.Path.{_≡_, refl, sym, _∙_}
-use lib.ListN.{length, getD}
 use mathlib.Core.List.{List}
+use lib.ListN.{length}
 use Rattle.ring.specs.Matrices.{cell, dot}
-use Rattle.ring.proofs.Columns.{Columns, columns-none, columns-more, columns-next, columns-all, dot-four, element-fits}
+use Rattle.ring.proofs.Cells.{Flattened, flattened-none, flattened-at, flattened-more, flattened-all}
+use Rattle.ring.proofs.Dots.{dot-four, element-fits}
 use Rattle.ring.proofs.vector_times.Statement.{statement}
 use Rattle.ring.proofs.vector_times.Tie as tie
 
@@ -14,99 +15,79 @@ use Rattle.ring.proofs.vector_times.Tie as tie
 abbrev element : List ℕ → List ℕ → ℕ → ℕ → ℕ → List ℕ
 element vector matrix row step e = dot 4 (cell vector) (λ q. cell matrix (e * row + q * step))
 
-abbrev rule : List ℕ → List ℕ → ℕ → ℕ → ℕ → ℕ → ℕ
-rule vector matrix row step e k = getD (element vector matrix row step e) k 0
-
-abbrev Inv-elements : tie.InvT-elements
-Inv-elements vector matrix out₀ count row step k words e₀ out e = (e ≤ count) × Columns (rule vector matrix row step) count k e out
-
-abbrev μ-elements : tie.MeasureT-elements
-μ-elements vector matrix out₀ count row step k words e₀ out e = count - e
-
 abbrev Inv-places : tie.InvT-places
-Inv-places vector matrix out₀ count row step k₀ out k = (k ≤ 64) × Columns (rule vector matrix row step) count k 0 out
+Inv-places vector matrix out₀ count row step e k₀ out k = (k ≤ 64) × Flattened (element vector matrix row step) count (e * 64 + k) out
 
 abbrev μ-places : tie.MeasureT-places
-μ-places vector matrix out₀ count row step k₀ out k = 64 - k
+μ-places vector matrix out₀ count row step e k₀ out k = 64 - k
 
--- the places of the start, of an outer turn and of an inner one
-room : (c : tie.In-elements Inv-elements μ-elements Inv-places μ-places) → let a = c .before .before .before .before .before .before .before .before .before .before .before .before .before .before .before .args in
-    c .before .elements .e * a .row * 64 + 3 * (a .step * 64) + 64 ≤ length (a .matrix .now)
+abbrev Inv-elements : tie.InvT-elements
+Inv-elements vector matrix out₀ count row step e₀ out e = (e ≤ count) × Flattened (element vector matrix row step) count (e * 64) out
+
+abbrev μ-elements : tie.MeasureT-elements
+μ-elements vector matrix out₀ count row step e₀ out e = count - e
+
+-- the matrix has what a turn reads
+room : (c : tie.In-places Inv-places μ-places Inv-elements μ-elements) → let l = c .before .before .before in
+    let a = l .before .before .before .before .args in l .elements .e * a .row * 64 + 3 * (a .step * 64) + 64 ≤ length (a .matrix .now)
 room c =
-    let s = c .before .before .before .before .before .before .before .before .before .before .before .before .before .before .before in
-    element-fits (s .args .count) (s .args .row) (s .args .step) (length (s .args .matrix .now)) (c .before .elements .e) (s .pre .1) (omega arith)
+    let l = c .before .before .before in
+    let s = l .before .before .before .before in
+    element-fits (s .args .count) (s .args .row) (s .args .step) (length (s .args .matrix .now)) (l .elements .e) (s .pre .1) (omega arith)
 
-places-holds : tie.Need-places-holds Inv-elements μ-elements Inv-places μ-places
-places-holds c = (omega arith, columns-none (c .before .before .before .pre .0 .1))
+elements-holds : tie.Need-elements-holds Inv-places μ-places Inv-elements μ-elements
+elements-holds c = (omega arith, flattened-none (c .before .before .before .pre .0 .1))
 
-shared-slice-read-new-2 :
-    tie.Need-shared-slice-read-new-2 Inv-elements μ-elements Inv-places μ-places
-shared-slice-read-new-2 c = search needs
+places-holds : tie.Need-places-holds Inv-places μ-places Inv-elements μ-elements
+places-holds c =
+    let l = c .before .elements in
+    let n : l .e * 64 ≡ l .e * 64 + 0 = omega arith in
+    (omega arith, flattened-at n (l .inv .1))
 
-shared-slice-read-new-3 :
-    tie.Need-shared-slice-read-new-3 Inv-elements μ-elements Inv-places μ-places
-shared-slice-read-new-3 c = search needs
-
-shared-slice-read-new-4 :
-    tie.Need-shared-slice-read-new-4 Inv-elements μ-elements Inv-places μ-places
-shared-slice-read-new-4 c = search needs
-
-elements-holds : tie.Need-elements-holds Inv-elements μ-elements Inv-places μ-places
-elements-holds c = (omega arith, c .before .before .before .before .before .before .before .before .before .places .inv .1)
-
-mul-combined : tie.Need-mul-combined Inv-elements μ-elements Inv-places μ-places
+mul-combined : tie.Need-mul-combined Inv-places μ-places Inv-elements μ-elements
 mul-combined c = omega (arith, room c)
 
-mul-combined-2 : tie.Need-mul-combined-2 Inv-elements μ-elements Inv-places μ-places
+mul-combined-2 : tie.Need-mul-combined-2 Inv-places μ-places Inv-elements μ-elements
 mul-combined-2 c = omega (arith, room c)
 
-add-combined : tie.Need-add-combined Inv-elements μ-elements Inv-places μ-places
+add-combined : tie.Need-add-combined Inv-places μ-places Inv-elements μ-elements
 add-combined c = omega (arith, room c)
 
-mul-combined-3 : tie.Need-mul-combined-3 Inv-elements μ-elements Inv-places μ-places
+mul-combined-3 : tie.Need-mul-combined-3 Inv-places μ-places Inv-elements μ-elements
 mul-combined-3 c = omega (arith, room c)
 
-combined-requires : tie.Need-combined-requires Inv-elements μ-elements Inv-places μ-places
-combined-requires c κs =
-    let w4 = c .before .before in
-    let w3 = w4 .before .before in
-    let w2 = w3 .before .before in
-    let w1 = w2 .before .before in
-    (w1 .new .ensures .good, w2 .new2 .ensures .good, w3 .new3 .ensures .good, w4 .new4 .ensures .good, omega (arith, room c))
+combined-requires : tie.Need-combined-requires Inv-places μ-places Inv-elements μ-elements
+combined-requires c κs = (omega arith, omega (arith, room c))
 
-elements-again : tie.Need-elements-again Inv-elements μ-elements Inv-places μ-places
-elements-again c =
+slice-write-out : tie.Need-slice-write-out Inv-places μ-places Inv-elements μ-elements
+slice-write-out c = omega (arith, c .before .before .places .inv .1 .size)
+
+places-again : tie.Need-places-again Inv-places μ-places Inv-elements μ-elements
+places-again c =
     let l = c .before .before in
-    let w4 = l .before in
-    let w3 = w4 .before .before in
-    let w2 = w3 .before .before in
-    let w1 = w2 .before .before in
-    let p = w1 .before .before .before in
-    let s = p .before .before .before .before in (
+    let a = l .before .before .before .before .before .before .args in
+    let e = l .before .before .elements .e in
+    let k = l .places .k in (
       omega arith,
-      columns-more (omega arith) (omega arith)
-          (dot-four (s .args .vector .now) (s .args .matrix .now) (l .elements .e) (s .args .row) (s .args .step) (p .places .k) _ (s .pre .0 .0) (omega arith) refl _ _ _ _ _
-          (w1 .new .ensures .number) (w2 .new2 .ensures .number) (w3 .new3 .ensures .number) (w4 .new4 .ensures .number) (c .combined .ensures))
-          (l .elements .inv .1),
+      flattened-more e k (c .combined .result) (omega arith) (omega arith)
+          (dot-four (a .vector .now) (a .matrix .now) e (a .row) (a .step) k _ (omega arith) refl _ (c .combined .ensures))
+          (l .places .inv .1),
     )
 
-places-again : tie.Need-places-again Inv-elements μ-elements Inv-places μ-places
-places-again c = (omega arith, columns-next (let e : c .before .elements .e ≡ c .before .before .before .before .before .before .before .before .before .before .before .before .before .before .before .args .count = omega arith in e) (c .before .elements .inv .1))
+elements-again : tie.Need-elements-again Inv-places μ-places Inv-elements μ-elements
+elements-again c =
+    let l = c .before in
+    let e = l .before .before .elements .e in
+    (omega arith, flattened-at (let n : e * 64 + l .places .k ≡ (e + 1) * 64 = omega arith in n) (l .places .inv .1))
 
-same-length : tie.Need-same-length Inv-elements μ-elements Inv-places μ-places
-same-length c = c .before .places .inv .1 .size ∙ sym (c .before .before .before .before .before .pre .0 .1)
+same-length : tie.Need-same-length Inv-places μ-places Inv-elements μ-elements
+same-length c = c .before .elements .inv .1 .size ∙ sym (c .before .before .before .before .before .pre .0 .1)
 
-returns : tie.Need-returns Inv-elements μ-elements Inv-places μ-places
-returns c =
-    let s = c .before .before .before .before .before in
-    columns-all (element (s .args .vector .now) (s .args .matrix .now) (s .args .row) (s .args .step)) (s .args .count) (c .before .places .k) (c .before .places .out) (omega arith) (c .before .places .inv .1)
+returns : tie.Need-returns Inv-places μ-places Inv-elements μ-elements
+returns c = flattened-all (c .before .elements .e) (omega arith) (c .before .elements .inv .1)
 
 pub vector-times-spec : {M : Type 1} → statement M
 vector-times-spec =
-    tie.close (tie.spec Inv-elements μ-elements Inv-places μ-places places-holds (λ c. search needs) (λ c. search needs)
-    (λ c κs. search needs) (λ c. search needs) (λ c. search needs) shared-slice-read-new-2 (λ c κs. search needs)
-    (λ c. search needs) (λ c. search needs) shared-slice-read-new-3 (λ c κs. search needs) (λ c. search needs)
-    (λ c. search needs) shared-slice-read-new-4 (λ c κs. search needs) elements-holds mul-combined mul-combined-2
+    tie.close (tie.spec Inv-places μ-places Inv-elements μ-elements elements-holds places-holds mul-combined mul-combined-2
     add-combined mul-combined-3 combined-requires (λ c. search needs) (λ c. search needs) (λ c. search needs)
-    (λ c. search needs) (λ c. search needs) (λ c. search needs) elements-again (λ c. search needs)
-    (λ c. search needs) places-again same-length returns)
+    slice-write-out (λ c. search needs) (λ c. search needs) places-again (λ c. search needs) (λ c. search needs) elements-again same-length returns)
