@@ -8,7 +8,7 @@ use lib.Dec.{lit<}
 use Rattle.laws.proofs.ModularSolver.{mod-ring, at, lit, rem, neg, _⊞_, _⊠_}
 use Rattle.field.specs.declared.BFieldElement.{BFieldElement}
 use Rattle.field.specs.Field.{P, R2, reduced}
-use Rattle.field.specs.Element.{Good, num, Stands, element}
+use Rattle.field.specs.Element.{Good, num, Stands, word, element}
 
 -- ---- words
 -- the high half of a product is below p where a factor is
@@ -45,23 +45,29 @@ pub num-lt : (e : BFieldElement) → num e < P
 unfolding num reduced
 num-lt e = mod-lt (e .0 * R2) (lit< tt)
 
--- a word is its number times 2^64
-word-is : (w : ℕ) → w < P → w ≡ reduced w * 2 ^ 64 % P
-unfolding reduced
+-- the word of a number is canonical and stands for its remainder
+pub word-lt : (v : ℕ) → word v < P
+unfolding word
+word-lt v = mod-lt (v * 2 ^ 64) (lit< tt)
+
+pub word-number : (v : ℕ) → reduced (word v) ≡ v % P
+unfolding word reduced
+word-number v = mod-ring P (lit< tt) (v ∷ []) (rem (at 0 ⊠ lit (2 ^ 64)) ⊠ lit R2) (at 0) refl
+
+-- a word is that of its number
+word-is : (w : ℕ) → w < P → w ≡ word (reduced w)
+unfolding word reduced
 word-is w h = sym (mod-eq-of-lt h) ∙ mod-ring P (lit< tt) (w ∷ []) (at 0) (rem (at 0 ⊠ lit R2) ⊠ lit (2 ^ 64)) refl
 
 -- an element is the element of its number: a number determines its word
 pub stands-element : (e : BFieldElement) (v : ℕ) → Stands e v → e ≡ element v
 unfolding element num Good
-stands-element e v s = λ i. record { 0 = (word-is (e .0) (s .good) ∙ ap (λ (n : ℕ). n * 2 ^ 64 % P) (s .number)) i }
+stands-element e v s = λ i. record { 0 = (word-is (e .0) (s .good) ∙ ap word (s .number)) i }
 
 pub same-element : (e f : BFieldElement) (v : ℕ) → Stands e v → Stands f v → e ≡ f
 same-element e f v s t = stands-element e v s ∙ sym (stands-element f v t)
 
 -- the element of a number stands for its remainder
 pub element-stands : (v : ℕ) → Stands (element v) (v % P)
-unfolding element num Good reduced
-element-stands v = record {
-  good = mod-lt (v * 2 ^ 64) (lit< tt);
-  number = mod-ring P (lit< tt) (v ∷ []) (rem (at 0 ⊠ lit (2 ^ 64)) ⊠ lit R2) (at 0) refl;
-}
+unfolding element num Good
+element-stands v = record { good = word-lt v; number = word-number v }

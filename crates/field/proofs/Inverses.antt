@@ -10,7 +10,7 @@ use Rattle.field.specs.declared.BFieldElement.{BFieldElement}
 use Rattle.field.specs.declared.Inverted.{Inverted}
 use Rattle.field.specs.declared.Inverted.the-variants.{Inverse, OfZero}
 use Rattle.field.specs.Field.{P, R2, reduced}
-use Rattle.field.specs.Element.{Good, num, Stands, element, choose, inverted}
+use Rattle.field.specs.Element.{Good, num, Stands, word, element, choose, inverted}
 use Rattle.field.proofs.Elements.{element-stands, stands-element}
 use Rattle.field.proofs.Fermat.{inverse-is}
 
@@ -33,7 +33,7 @@ unfolding num reduced
 word-zero e z = ap (λ (n : ℕ). (n * R2) % P) z
 
 pub word-other : (e : BFieldElement) → Good e → (e .0 ≡ 0 → ⊥) → 0 < num e
-unfolding element
+unfolding element word
 word-other e g ne = go (eq-zero-or-pos (num e))
   where
     go : (num e ≡ 0) ⊎ (0 < num e) → 0 < num e

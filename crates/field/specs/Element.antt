@@ -22,9 +22,12 @@ pub record Stands (e : BFieldElement) (v : ℕ) : Type 0 where
   pub good : Good e
   pub number : num e ≡ v
 
--- the element of any number
+-- the word of any number, and its element
+unfoldable pub word : ℕ → ℕ
+word v = (v * 2 ^ 64) % P
+
 unfoldable pub element : ℕ → BFieldElement
-element v = record { 0 = (v * 2 ^ 64) % P }
+element v = record { 0 = word v }
 
 -- ---- the inverse
 abbrev pub choose : Bool → Inverted → Inverted → Inverted

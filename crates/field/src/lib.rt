@@ -189,6 +189,14 @@ impl BFieldElement {
         BFieldElement(reduced_product(Self::R2, value))
     }
 
+    // The element of a word, for tables of them.
+    pub fn from_word(word: u64) -> Self
+        requires { ⌜ word < P ⌝ }
+        ensures { λ r. ⌜ Stands r (reduced word) ⌝ }
+    {
+        BFieldElement(word)
+    }
+
     pub fn value(self) -> u64
         ensures { λ r. ⌜ r ≡ num self ⌝ }
     {

@@ -91,9 +91,10 @@ module _ (f g : ℕ → ℕ → ℕ → ℕ) (table : ℕ → ℕ) (m t : ℕ) (
       let l : r + t < t + t = omega arith in
       let e : i * (t + t) + r + t ≡ i * (t + t) + (r + t) = omega arith in
       let o : i * (t + t) + r + t - t ≡ i * (t + t) + r = omega arith in
+      let d : (i * (t + t) + r + t) / (t + t) ≡ i = ap (λ n. n / (t + t)) e ∙ digits-div i l in
       (λ k. elim (ltb ((ap (λ n. n % (t + t)) e ∙ digits-mod i l) k) t) as (λ b. ℕ) [
-        | true ↦ f (table (m + (ap (λ n. n / (t + t)) e ∙ digits-div i l) k)) (getD old (i * (t + t) + r + t) 0) (getD old (i * (t + t) + r + t + t) 0)
-        | false ↦ g (table (m + (ap (λ n. n / (t + t)) e ∙ digits-div i l) k)) (getD old (o k) 0) (getD old (i * (t + t) + r + t) 0)
+        | true ↦ f (table (m + d k)) (getD old (i * (t + t) + r + t) 0) (getD old (i * (t + t) + r + t + t) 0)
+        | false ↦ g (table (m + d k)) (getD old (o k) 0) (getD old (i * (t + t) + r + t) 0)
       ])
       ∙ simp (le-ltb (r + t) t (let q : t ≤ r + t = omega arith in q))
 
@@ -118,8 +119,12 @@ module _ (f g : ℕ → ℕ → ℕ → ℕ) (table : ℕ → ℕ) (m t : ℕ) (
 
       within : (p : ℕ) → p < (i + 1) * (t + t) → i * (t + t) ≤ p → getD new p 0 ≡ rule p
       within p h l = ⊎-elim
-          (λ q. let e : i * (t + t) + (p - i * (t + t) - t) + t ≡ p = omega arith in subst (λ n. getD new n 0 ≡ rule n) e (upper (p - i * (t + t) - t) (omega arith)))
-          (λ q. let e : i * (t + t) + (p - i * (t + t)) ≡ p = omega arith in subst (λ n. getD new n 0 ≡ rule n) e (lower (p - i * (t + t)) (omega arith)))
+          (λ q.
+          let e : i * (t + t) + (p - i * (t + t) - t) + t ≡ p = omega arith in
+          subst (λ n. getD new n 0 ≡ rule n) e (upper (p - i * (t + t) - t) (omega arith)))
+          (λ q.
+          let e : i * (t + t) + (p - i * (t + t)) ≡ p = omega arith in
+          subst (λ n. getD new n 0 ≡ rule n) e (lower (p - i * (t + t)) (omega arith)))
           (le-or-lt (i * (t + t) + t) p)
 
   stage-none : Filled rule (0 * (t + t)) old old
@@ -185,17 +190,14 @@ module _ {S : Step} {m t : ℕ} {old : List ℕ} {i : ℕ} {now : List ℕ} (x :
   staged-entry h = entry-fits m t i (x .size) h
 
   -- one block more, with the zeta that stands in the table
-  pub staged-more : {zetas : List ℕ} (z : ℕ) {new : List ℕ} → i < m → zetas ≡ tab 64 (S .table) → z ≡ getD zetas (m + i) 0 % P
+  pub staged-more : (z : ℕ) {new : List ℕ} → i < m → z ≡ S .table (m + i) % P
       → Butterflied (S .low z) (S .high z) (i * (t + t)) t (i * (t + t) + t) now new → Staged S m t old (i + 1) new
-  staged-more {zetas} z {new} h e f b = record {
+  staged-more z {new} h e b = record {
     size = x .size;
     canonical = x .canonical;
     within = omega arith;
-    done = stage-more (S .low) (S .high) (S .table) m t old i z now new entry (x .done) b;
+    done = stage-more (S .low) (S .high) (S .table) m t old i z now new (e ∙ S .reduced (m + i)) (x .done) b;
   }
-    where
-      entry : z ≡ S .table (m + i)
-      entry = f ∙ ap (λ (l : List ℕ). getD l (m + i) 0 % P) e ∙ ap (λ (n : ℕ). n % P) (getD-tab 64 (S .table) 0 (m + i) (staged-entry h)) ∙ S .reduced (m + i)
 
   pub staged-all : i ≡ m → (now ≡ tab 64 (step-at S m t old)) × Coefficients 64 now
   staged-all e = (stage-all (S .low) (S .high) (S .table) m t old i now e (x .size) (x .canonical .size) (x .done), staged-canonical)

@@ -4,10 +4,12 @@ use mathlib.Core.List.{List}
 use Prim.Native.Nat.{ℕ, _+_, _*_, _-_, _/_, _%_, _≤_, _<_}
 use native.Mathlib.Omega.{arith}
 use native.Mathlib.Decide.{ℕ-discrete}
-use lib.ListN.{length, getD, set, length-set}
-use lib.Seq.{getD-set-same, getD-set-other}
+use lib.ListN.{length, getD, set, take, drop, length-set, length-drop}
+use lib.Seq.{getD-set-same, getD-set-other, length-take-le, getD-take, getD-drop}
 use Rattle.laws.proofs.Lists.{getD-tab, is-tab, tab-ext}
 use Rattle.laws.proofs.Bounds.{tab-below}
+use Rattle.laws.proofs.Updates.{Filled, mapped-none, mapped-at, mapped-end}
+use Rattle.laws.proofs.Parts.{put, mapped-put}
 use Rattle.field.specs.Field.{P, Coefficients}
 use Rattle.ring.specs.Transform.{transform}
 use Rattle.ring.specs.Elements.{plus, minus}
@@ -104,3 +106,33 @@ module _ {f : ℕ → List ℕ} {count : ℕ} {l : List ℕ} where
   pub flattened-all : (n : ℕ) → n ≡ count → Flattened f count (n * 64) l → l ≡ flat count f
   unfolding flat
   flattened-all n e c = is-tab (count * 64) (λ x. getD (f (x / 64)) (x % 64) 0) 0 l (c .size) (λ x h. c .passed x (omega arith))
+
+-- ---- elements transformed in place, one after the other
+-- the part that a turn is lent is the next element as it was
+pub part-cell : {g : ℕ → ℕ} {old new : List ℕ} (i : ℕ) → i * 64 + 64 ≤ length old → Filled g (i * 64) old new
+    → take 64 (drop (i * 64) new) ≡ cell old i
+unfolding cell
+part-cell {new = new} i h m =
+    is-tab 64 _ 0 (take 64 (drop (i * 64) new))
+    (length-take-le 64 (drop (i * 64) new) (omega (arith, length-drop (i * 64) new, m .same-length)))
+    (λ k l. getD-take 64 (drop (i * 64) new) k 0 l ∙ getD-drop (i * 64) new k 0 ∙ m .rest (i * 64 + k) (omega arith))
+
+abbrev pub Transformed : ℕ → List ℕ → List ℕ → Type 0
+Transformed i old new = Filled (λ x. getD (transform (cell old (x / 64))) (x % 64) 0) (i * 64) old new
+
+pub transformed-none : (old : List ℕ) → Transformed 0 old old
+transformed-none old = mapped-none _ old
+
+pub transformed-more : (i : ℕ) (old new r : List ℕ) → i * 64 + 64 ≤ length old → Transformed i old new → r ≡ transform (take 64 (drop (i * 64) new))
+    → Transformed (i + 1) old (put (i * 64) 64 r new)
+transformed-more i old new r h t e =
+    let is : r ≡ transform (cell old i) = e ∙ ap transform (part-cell i h t) in
+    let n : i * 64 + 64 ≡ (i + 1) * 64 = omega arith in
+    mapped-at n (mapped-put _ (i * 64) 64 r old new (ap length is ∙ transform-canonical (cell old i) .size) h (λ k l.
+    let d : i ≡ (i * 64 + k) / 64 = omega arith in
+    let o : k ≡ (i * 64 + k) % 64 = omega arith in
+    ap (λ l. getD l k 0) is ∙ (λ j. getD (transform (cell old (d j))) (o j) 0)) t)
+
+pub transformed-all : (n i : ℕ) (old new : List ℕ) → i ≡ n → length old ≡ n * 64 → Transformed i old new → new ≡ transforms n old
+unfolding transforms flat
+transformed-all n i old new e h t = mapped-end _ (n * 64) (i * 64) old new (ap (λ k. k * 64) e) h t

@@ -8,7 +8,12 @@ use lib.Dec.{ltb}
 use lib.ListN.{length, getD}
 use Rattle.laws.specs.Lists.{tab}
 use Rattle.field.specs.Field.{P}
+use Rattle.field.specs.Element.{word}
 use Rattle.ring.specs.Transform.{zeta, zeta-inv}
+
+-- entry k of the forward table, as the word that a butterfly multiplies by
+unfoldable pub zeta-word : ℕ → ℕ
+zeta-word k = word (zeta k)
 
 -- a butterfly's two new numbers, from its zeta z and its old numbers u and w: forward
 abbrev pub sum-of : ℕ → ℕ → ℕ → ℕ

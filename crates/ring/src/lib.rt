@@ -9,8 +9,9 @@ ghost use Rattle.field.specs.Field.{P, Coefficients};
 ghost use Rattle.field.specs.Element.{Good, num};
 ghost use Rattle.ring.specs.Transform.{transform, untransform, zeta, zeta-inv};
 ghost use Rattle.ring.specs.Elements.{plus, minus, hadamard, product};
-ghost use Rattle.ring.specs.Matrices.{cell, flat, dot, matrix};
-ghost use Rattle.ring.specs.Stages.{sum-of, difference-of, sum-back, difference-back, Butterflied, forward, backward, unscaled, scaled};
+ghost use Rattle.ring.specs.Matrices.{cell, flat, transforms, dot, matrix};
+ghost use Rattle.ring.specs.Stages.{zeta-word, sum-of, difference-of, sum-back, difference-back, Butterflied};
+ghost use Rattle.ring.specs.Stages.{forward, backward, unscaled, scaled};
 
 // psi to the power brv(k), k from 0 to 63, and the inverses. Entry 0 is never read.
 const POWERS_OF_PSI_BITREVERSED: [u64; 64] = [
@@ -147,8 +148,89 @@ const POWERS_OF_PSI_INV_BITREVERSED: [u64; 64] = [
     18446741870424883713,
 ];
 
+// The words of the first table, which the forward transforms read: no block then has to make its element.
+const ZETA_WORDS: [u64; 64] = [
+    4294967295,
+    18446744069414518785,
+    72057594021150720,
+    18446742969902956545,
+    17592186040320,
+    18446744069146148865,
+    18446744069414584305,
+    18442240469787213825,
+    274877906880,
+    18446744069410390017,
+    4611686017353646080,
+    18446673700670406657,
+    1125899906580480,
+    18446744052234715137,
+    18446744069414583297,
+    18158513693262872577,
+    34359738360,
+    18446744069414060033,
+    576460752169205760,
+    18446735273321562113,
+    140737488322560,
+    18446744067267100673,
+    18446744069414584193,
+    18410715272395620353,
+    2199023255040,
+    18446744069381029889,
+    18446744069414584319,
+    18446181119461163009,
+    9007199252643840,
+    18446743931975630849,
+    18446744069414576129,
+    16140901060200890369,
+    18302626682349027329,
+    18302631080395538433,
+    18446744060824780803,
+    8590065662,
+    18437736870159843361,
+    9007199254741024,
+    18446708885579374593,
+    35184908951552,
+    9223231297218936833,
+    9223512772195647489,
+    18446743519667159169,
+    549764202368,
+    17870283317111162881,
+    576460752303425536,
+    18444492303961161729,
+    2251834172899328,
+    17293804972890128385,
+    17293840157262217217,
+    18446744000696156177,
+    68720525296,
+    18374686475376656641,
+    72057594037928192,
+    18446462598732906497,
+    281479271612416,
+    18445618169507741701,
+    1125899906842628,
+    18446739671435183105,
+    4398113618944,
+    13835058050987212801,
+    4611686018427404288,
+    18428729945787203585,
+    18014673383194624,
+];
+
 // 1/64
 const N_INV: u64 = 18158513693329981441;
+
+// The first table with its rule, as document 01 asks for it; the transforms read its words.
+pub fn powers_of_psi_bitreversed() -> [u64; 64]
+    ensures { λ r. ⌜ r ≡ tab 64 zeta ⌝ }
+{
+    POWERS_OF_PSI_BITREVERSED
+}
+
+fn zeta_words() -> [u64; 64]
+    ensures { λ r. ⌜ r ≡ tab 64 zeta-word ⌝ }
+{
+    ZETA_WORDS
+}
 
 // One block of the forward transform.
 fn butterflies(array: &mut [u64], s: usize, t: usize, zeta: BFieldElement)
@@ -164,37 +246,50 @@ fn butterflies(array: &mut [u64], s: usize, t: usize, zeta: BFieldElement)
     }
 }
 
-// One stage: m blocks of t + t numbers. The zetas are plain numbers, so that each block makes its element.
-fn stage(array: &mut [u64], zetas: &[u64; 64], m: usize, t: usize)
+// One stage: m blocks of t + t numbers.
+fn stage(array: &mut [u64], words: &[u64; 64], m: usize, t: usize)
     requires { ⌜ Coefficients 64 (now array) ⌝ }
-    requires { ⌜ (now zetas ≡ tab 64 zeta) × (m * (t + t) ≡ 64) ⌝ }
+    requires { ⌜ (now words ≡ tab 64 zeta-word) × (m * (t + t) ≡ 64) ⌝ }
     ensures { λ r. ⌜ (now (array .exit) ≡ forward m t (now (array .entry))) × Coefficients 64 (now (array .exit)) ⌝ }
 {
     for i in 0..m {
-        let zeta = BFieldElement::new(zetas[m + i]);
+        let zeta = BFieldElement::from_word(words[m + i]);
         butterflies(array, i * (t + t), t, zeta);
     }
 }
 
 // The stages are calls with constant sizes, which LLVM unrolls: a tenth less time than one loop over them takes.
-fn stages(array: &mut [u64], zetas: &[u64; 64])
-    requires { ⌜ Coefficients 64 (now array) × (now zetas ≡ tab 64 zeta) ⌝ }
+fn stages(array: &mut [u64], words: &[u64; 64])
+    requires { ⌜ Coefficients 64 (now array) × (now words ≡ tab 64 zeta-word) ⌝ }
     ensures { λ r. ⌜ now (array .exit) ≡ transform (now (array .entry)) ⌝ }
 {
-    stage(array, zetas, 1, 32);
-    stage(array, zetas, 2, 16);
-    stage(array, zetas, 4, 8);
-    stage(array, zetas, 8, 4);
-    stage(array, zetas, 16, 2);
-    stage(array, zetas, 32, 1);
+    stage(array, words, 1, 32);
+    stage(array, words, 2, 16);
+    stage(array, words, 4, 8);
+    stage(array, words, 8, 4);
+    stage(array, words, 16, 2);
+    stage(array, words, 32, 1);
 }
 
 pub fn coset_ntt_noswap_64(array: &mut [u64])
     requires { ⌜ Coefficients 64 (now array) ⌝ }
     ensures { λ r. ⌜ now (array .exit) ≡ transform (now (array .entry)) ⌝ }
 {
-    let zetas = POWERS_OF_PSI_BITREVERSED;
-    stages(array, &zetas);
+    let words = zeta_words();
+    stages(array, &words);
+}
+
+// Each of four ring elements, in place. The words are taken once, as each mention of a table fills it anew.
+pub fn coset_ntt_noswap_four(vector: &mut [u64])
+    requires { ⌜ Coefficients 256 (now vector) ⌝ }
+    ensures { λ r. ⌜ now (vector .exit) ≡ transforms 4 (now (vector .entry)) ⌝ }
+{
+    let words = zeta_words();
+    for i in 0..4 {
+        let start = i * 64;
+        let end = start + 64;
+        stages(&mut vector[start..end], &words);
+    }
 }
 
 // One block of the inverse transform.
@@ -211,7 +306,7 @@ fn unbutterflies(array: &mut [u64], k: usize, t: usize, zeta: BFieldElement)
     }
 }
 
-// One stage of the inverse: h blocks of t + t numbers.
+// One stage of the inverse: h blocks of t + t numbers. The zetas are plain numbers, so that each block makes its element.
 fn unstage(array: &mut [u64], zetas: &[u64; 64], h: usize, t: usize)
     requires { ⌜ Coefficients 64 (now array) ⌝ }
     requires { ⌜ (now zetas ≡ tab 64 zeta-inv) × (h * (t + t) ≡ 64) ⌝ }

@@ -1,10 +1,14 @@
 -- `unstage` is `backward`, block by block. Assumes nothing.
 use borrow.Author.Needs.{needs}
 use native.Mathlib.Omega.{arith}
-use Prim.Native.Nat.{_+_, _*_, _-_, _≤_, _<_}
+use Prim.Native.Nat.{ℕ, _+_, _*_, _-_, _≤_, _<_, _%_}
+use mathlib.Core.Path.{ap, _∙_}
+use Rattle.field.specs.Field.{P}
+use Rattle.ring.specs.Transform.{zeta-inv}
 use Rattle.ring.specs.Stages.{backward}
 use Rattle.ring.proofs.Blocks.{Staged, staged-none, staged-canonical, staged-room, staged-entry, staged-more, staged-all}
 use Rattle.ring.proofs.Backward.{back}
+use Rattle.ring.proofs.Tables.{entry-is}
 use Rattle.ring.proofs.unstage.Statement.{statement}
 use Rattle.ring.proofs.unstage.Tie as tie
 
@@ -42,7 +46,9 @@ unbutterflies-requires c κs = let k = c .before .before .before in (staged-cano
 loop-again : tie.Need-loop-again Inv-loop μ-loop
 loop-again c =
     let k = c .before .before .before .before .before .before in
-    staged-more (k .before .loop .inv) _ (omega arith) (k .before .before .before .pre .1 .0) (c .before .before .before .before .new .ensures .number) (c .before .before .unbutterflies .ensures)
+    let z = entry-is zeta-inv _ (entry k) (k .before .before .before .pre .1 .0) in
+    staged-more (k .before .loop .inv) _ (omega arith)
+    (c .before .before .before .before .new .ensures .number ∙ ap (λ (n : ℕ). n % P) z) (c .before .before .unbutterflies .ensures)
 
 returns : tie.Need-returns Inv-loop μ-loop
 unfolding backward
