@@ -8,7 +8,7 @@ use lib.Dec.{lit<}
 use lib.ListN.{getD}
 use Rattle.laws.proofs.Bits.{bit-lt}
 use Rattle.laws.proofs.Bounds.{tab-below}
-use Rattle.laws.proofs.ModularSolver.{mod-ring, at, lit, rem, _⊞_, _⊠_}
+use Rattle.laws.proofs.ModularSolver.{mod-ring, at, lit, _⊞_, _⊠_}
 use Rattle.field.specs.Field.{P, Coefficients}
 use Rattle.lanes.specs.Samplers.{big-endian, uniform, uniforms, ones, counts, short, shorts}
 
@@ -70,8 +70,5 @@ nine-bytes l s hi a b e f g =
         first = ap (λ (n : ℕ). getD l n 0) (sym (add-zero s)) ∙ sym (zero-add (getD l (s + 0) 0))
 
 -- 2^64 is 2^32 - 1 modulo p
-pub folded : (hi lo rest : ℕ) → rest % P ≡ lo % P → (rest + hi * 0xffff_ffff) % P ≡ (hi * 2 ^ 64 + lo) % P
-folded hi lo rest e =
-    mod-ring P (lit< tt) (rest ∷ hi ∷ []) (at 0 ⊞ at 1 ⊠ lit 0xffff_ffff) (rem (at 0) ⊞ at 1 ⊠ lit (2 ^ 64)) refl
-    ∙ ap (λ (n : ℕ). (n + hi * 2 ^ 64) % P) e
-    ∙ mod-ring P (lit< tt) (lo ∷ hi ∷ []) (rem (at 0) ⊞ at 1 ⊠ lit (2 ^ 64)) (at 1 ⊠ lit (2 ^ 64) ⊞ at 0) refl
+pub folded : (hi lo : ℕ) → (lo + hi * 0xffff_ffff) % P ≡ (hi * 2 ^ 64 + lo) % P
+folded hi lo = mod-ring P (lit< tt) (lo ∷ hi ∷ []) (at 0 ⊞ at 1 ⊠ lit 0xffff_ffff) (at 1 ⊠ lit (2 ^ 64) ⊞ at 0) refl

@@ -1,5 +1,4 @@
 // Samplers and message lanes of lattice.rs, over lent slices. Coefficients are canonical numbers.
-use field::BFieldElement;
 ghost use mathlib.Core.Path.{_≡_};
 ghost use Prim.Native.Nat.{_+_, _*_, _%_, _^_, _<_, _≤_};
 ghost use lib.ListN.{length};
@@ -293,12 +292,7 @@ fn uniform_at(l: &[u8], s: usize) -> u64
 {
     let hi = wide(l[s]);
     let lo = four_bytes(l, s + 1) * 0x1_0000_0000 + four_bytes(l, s + 5);
-    let rest = if lo < BFieldElement::P {
-        lo
-    } else {
-        lo - BFieldElement::P
-    };
-    field::add_mod_p(rest, hi * 0xffff_ffff)
+    field::canonical(field::add_lazy(lo, hi * 0xffff_ffff))
 }
 
 // As many uniform coefficients as `out` holds: a ring element, or a matrix of them.
