@@ -1,6 +1,5 @@
 -- `squeeze_in_step` puts the two states into one array, draws, and takes them out again. Assumes nothing.
 use native.Mathlib.Omega.{arith}
-use Prim.Native.Nat.{_-_}
 use mathlib.Core.Path.{refl, _∙_}
 use borrow.Author.Needs.{needs}
 use Rattle.hash.proofs.Steps.{begun-alike, begun-of}
