@@ -30,13 +30,13 @@ module _ (c : tie.After-sample-shorts2) where
   sampled-2 : c .sample-shorts2 .last .1 .0 ≡ shorts ones 256 back
   sampled-2 = c .sample-shorts2 .ensures ∙ ap (λ (n : ℕ). shorts ones n back) (entered prior .pre .2)
 
-transform-four-requires : tie.Need-transform-four-requires
-transform-four-requires c κs =
+coset-ntt-noswap-four-requires : tie.Need-coset-ntt-noswap-four-requires
+coset-ntt-noswap-four-requires c κs =
     let drew = c .before .before .before in
     told-canonical (sampled (prior drew)) (shorts-canonical ones 256 _)
 
-transform-four-requires-2 : tie.Need-transform-four-requires-2
-transform-four-requires-2 c κs =
+coset-ntt-noswap-four-requires-2 : tie.Need-coset-ntt-noswap-four-requires-2
+coset-ntt-noswap-four-requires-2 c κs =
     let drew = c .before .before .before .before .before .before .before in
     told-canonical (sampled-2 drew) (shorts-canonical ones 256 _)
 
@@ -44,11 +44,13 @@ returns : tie.Need-returns
 returns c =
     let right = c .before .before in
     let left = right .before .before .before .before in
-    let drew = left .before .before .before .before in
-    (left .transform-four .ensures ∙ ap (transforms 4) (sampled (prior drew)), right .transform-four2 .ensures ∙ ap (transforms 4) (sampled-2 drew))
+    let drew = left .before .before .before .before in (
+      left .coset-ntt-noswap-four .ensures ∙ ap (transforms 4) (sampled (prior drew)),
+      right .coset-ntt-noswap-four2 .ensures ∙ ap (transforms 4) (sampled-2 drew),
+    )
 
 pub short-vectors-spec : {M : Type 1} → statement M
 short-vectors-spec =
     tie.close (tie.spec (λ c. search needs) (λ c. search needs) (λ c. search needs) (λ c κs. search needs)
-    (λ c. search needs) (λ c. search needs) (λ c. search needs) (λ c κs. search needs) transform-four-requires
-    transform-four-requires-2 (λ c. search needs) (λ c. search needs) returns)
+    (λ c. search needs) (λ c. search needs) (λ c. search needs) (λ c κs. search needs) coset-ntt-noswap-four-requires
+    coset-ntt-noswap-four-requires-2 (λ c. search needs) (λ c. search needs) returns)
