@@ -7,6 +7,7 @@ use crate::timing::{Side, compare, side};
 // A Rattle slice is a pointer and a length.
 unsafe extern "C" {
     fn bench_permute(a: *mut u64);
+    fn bench_permute_two(s: *mut u64);
     fn bench_shake256(message: *const u8, size: usize, output: *mut u8, room: usize);
     fn bench_sha3_256(message: *const u8, size: usize, output: *mut u8);
     fn c_permute(a: *mut u64);
@@ -14,6 +15,11 @@ unsafe extern "C" {
 
 fn permute(a: &mut [u64; 25]) {
     unsafe { bench_permute(a.as_mut_ptr()) }
+}
+
+/// Lane i of state j, which is 2 or 3, stands at 2 i + j.
+fn permute_two(s: &mut [u64; 52]) {
+    unsafe { bench_permute_two(s.as_mut_ptr()) }
 }
 
 fn permute_in_c(a: &mut [u64; 25]) {
@@ -39,11 +45,12 @@ fn rust_sha3_256(message: &[u8], output: &mut [u8; 32]) {
     output.copy_from_slice(&sha3::Sha3_256::digest(message));
 }
 
-/// So many permutations, one after the other.
-pub fn floor<'a>(permutations: usize) -> Side<'a> {
-    let mut state = [7; 25];
+/// So many permutations of two states in step, and then so many of one.
+pub fn floor<'a>(pairs: usize, singles: usize) -> Side<'a> {
+    let (mut two, mut one) = ([7; 52], [7; 25]);
     side(1, move || {
-        (0..permutations).for_each(|_| permute(&mut state))
+        (0..pairs).for_each(|_| permute_two(&mut two));
+        (0..singles).for_each(|_| permute(&mut one));
     })
 }
 
@@ -52,6 +59,9 @@ fn compare_answers(message: &[u8]) {
     permute(&mut a);
     permute_in_c(&mut b);
     assert_eq!(a, b);
+    let mut two = [7; 52];
+    permute_two(&mut two);
+    assert!((0..50).all(|k| two[k + 2] == a[k / 2]));
     for size in [0, 32, 135, 136, 137, message.len()] {
         let (mut a, mut b) = ([0; 9216], [0; 9216]);
         shake256(&message[..size], &mut a);
@@ -89,6 +99,12 @@ pub fn run() {
         side(50, || permute_in_c(&mut b)),
     ];
     compare("permutation", "C, clang -O3", sides);
+    let (mut two, mut one) = ([7; 52], [7; 25]);
+    let sides = [
+        side(25, || permute_two(&mut two)),
+        side(50, || permute(&mut one)),
+    ];
+    compare("two permutations in step", "one of ours", sides);
     compare_shake256("SHAKE256, 32 to 9,216 bytes", &message[..32], 9216, 1);
     compare_shake256("SHAKE256, 32 to 32 bytes", &message[..32], 32, 50);
     compare_sha3_256("SHA3-256 of 32 bytes", &message[..32], 50);

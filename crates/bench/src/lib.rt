@@ -4,10 +4,11 @@ ghost use mathlib.Core.Path.{_≡_};
 ghost use lib.ListN.{length};
 ghost use Rattle.field.specs.Field.{Coefficients};
 ghost use Rattle.keccak.specs.Lanes.{keccak-p};
+ghost use Rattle.keccak.specs.Pairs.{Both};
 ghost use Rattle.hash.specs.Fips202.{shake256, sha3-256};
 ghost use Rattle.ring.specs.Transform.{transform, untransform};
 ghost use Rattle.ring.specs.Elements.{product};
-ghost use Rattle.ring.specs.Matrices.{matrix};
+ghost use Rattle.ring.specs.Matrices.{transforms, matrix};
 ghost use Rattle.lanes.specs.Samplers.{ones};
 ghost use Rattle.packets.specs.Packets.{G, keygen, enc, dec};
 ghost use Rattle.packets.specs.Layout.{public-bytes, public-of};
@@ -18,6 +19,13 @@ pub extern "C" fn bench_permute(a: &mut [u64; 25])
     ensures { λ _. ⌜ now (a .exit) ≡ keccak-p (now (a .entry)) ⌝ }
 {
     keccak::permute(a);
+}
+
+#[no_mangle]
+pub extern "C" fn bench_permute_two(s: &mut [u64; 52])
+    ensures { λ _. ⌜ Both keccak-p (now (s .entry)) (now (s .exit)) ⌝ }
+{
+    keccak::permute_two(s);
 }
 
 #[no_mangle]
@@ -40,6 +48,14 @@ pub extern "C" fn bench_ntt(array: &mut [u64; 64])
     ensures { λ _. ⌜ now (array .exit) ≡ transform (now (array .entry)) ⌝ }
 {
     ring::coset_ntt_noswap_64(array);
+}
+
+#[no_mangle]
+pub extern "C" fn bench_ntt_four(vector: &mut [u64; 256])
+    requires { ⌜ Coefficients 256 (now vector) ⌝ }
+    ensures { λ _. ⌜ now (vector .exit) ≡ transforms 4 (now (vector .entry)) ⌝ }
+{
+    ring::coset_ntt_noswap_four(vector);
 }
 
 #[no_mangle]
@@ -99,7 +115,8 @@ pub extern "C" fn bench_keygen(
     secret: &mut [u8; 64],
     public: &mut [u8; 2080],
 )
-    ensures { λ _. ⌜ (now (secret .exit) ≡ keygen ones (now (randomness .entry)) .secret) × (now (public .exit) ≡ public-bytes (keygen ones (now (randomness .entry)) .public)) ⌝ }
+    ensures { λ _. ⌜ (now (secret .exit) ≡ keygen ones (now (randomness .entry)) .secret)
+        × (now (public .exit) ≡ public-bytes (keygen ones (now (randomness .entry)) .public)) ⌝ }
 {
     seal::keygen(randomness, secret, public);
 }
