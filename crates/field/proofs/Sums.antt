@@ -1,6 +1,6 @@
 -- Sums of products in three words, on plain numbers: one product more, and the reduction. Assumes nothing.
 use mathlib.Core.Path.{_≡_, refl, sym, ap, _∙_}
-use mathlib.Core.List.{List, [], _∷_}
+use mathlib.Core.List.{[], _∷_}
 use Prim.Native.Nat.{ℕ, _+_, _*_, _-_, _/_, _%_, _^_, _≤_, _<_}
 use native.Mathlib.Nat.{mod-eq-of-lt, mod-add-mod, div-add-mod', mul-le-mul, lt-of-mul-lt-mul-right, add-mod-right}
 use native.Mathlib.Omega.{arith}

@@ -14,7 +14,6 @@ use lib.ListN.{length, getD, set, length-set}
 use lib.Seq.{getD-set-same, getD-set-other}
 use Rattle.laws.specs.Lists.{tab}
 use Rattle.laws.proofs.Orders.{le-or-lt}
-use Rattle.laws.proofs.Lists.{getD-tab}
 use Rattle.laws.proofs.Updates.{Filled, mapped-none, mapped-all}
 use Rattle.laws.proofs.Bounds.{mapped-below}
 use Rattle.field.specs.Field.{P, Coefficients}

@@ -2,7 +2,7 @@
 use borrow.Author.Needs.{needs}
 use native.Mathlib.Omega.{arith}
 use mathlib.Core.Path.{_≡_, ap}
-use Prim.Native.Nat.{ℕ, _+_, _-_, _<_, _%_}
+use Prim.Native.Nat.{ℕ, _+_, _-_, _%_}
 use Rattle.field.specs.Field.{P}
 use Rattle.field.proofs.Sums.{by-p}
 use Rattle.field.proofs.sub_lazy.Statement.{statement}

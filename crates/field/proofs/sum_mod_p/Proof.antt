@@ -30,4 +30,5 @@ returns c =
 
 pub sum-mod-p-spec : {M : Type 1} → statement M
 sum-mod-p-spec =
-    tie.close (tie.spec mul-down add-down (λ c. search needs) sub-lazy-requires (λ c κs. search needs) (λ c κs. search needs) returns)
+    tie.close (tie.spec mul-down add-down (λ c. search needs) sub-lazy-requires (λ c κs. search needs)
+    (λ c κs. search needs) returns)

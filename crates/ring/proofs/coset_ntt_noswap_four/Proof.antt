@@ -56,6 +56,6 @@ returns c = transformed-all 4 (c .before .loop .i) _ _ (omega arith) (c .before 
 
 pub coset-ntt-noswap-four-spec : {M : Type 1} → statement M
 coset-ntt-noswap-four-spec =
-    tie.close (tie.spec Inv-loop μ-loop (λ c κs. search needs) loop-holds (λ c. search needs) (λ c. search needs) (λ c. search needs)
-    (λ c. search needs) (λ c. search needs) (λ c. search needs) stages-requires (λ c. search needs) (λ c. search needs)
-    loop-again same-length returns)
+    tie.close (tie.spec Inv-loop μ-loop (λ c κs. search needs) loop-holds (λ c. search needs) (λ c. search needs)
+    (λ c. search needs) (λ c. search needs) (λ c. search needs) (λ c. search needs) stages-requires
+    (λ c. search needs) (λ c. search needs) loop-again same-length returns)

@@ -65,5 +65,5 @@ returns c = staged-all (c .before .loop .inv) (omega arith)
 pub stage-spec : {M : Type 1} → statement M
 stage-spec =
     tie.close (tie.spec Inv-loop μ-loop (λ c. staged-none (c .before .pre .1 .1) (c .before .pre .0)) add-word mul-word
-    element-copy-out-word from-word-requires add-butterflies mul-butterflies butterflies-requires
-    (λ c. search needs) (λ c. search needs) loop-again (λ c. search needs) returns)
+    element-copy-out-word from-word-requires add-butterflies mul-butterflies butterflies-requires (λ c. search needs)
+    (λ c. search needs) loop-again (λ c. search needs) returns)

@@ -88,6 +88,7 @@ returns c = flattened-all (c .before .elements .e) (omega arith) (c .before .ele
 
 pub vector-times-spec : {M : Type 1} → statement M
 vector-times-spec =
-    tie.close (tie.spec Inv-places μ-places Inv-elements μ-elements elements-holds places-holds mul-combined mul-combined-2
-    add-combined mul-combined-3 combined-requires (λ c. search needs) (λ c. search needs) (λ c. search needs)
-    slice-write-out (λ c. search needs) (λ c. search needs) places-again (λ c. search needs) (λ c. search needs) elements-again same-length returns)
+    tie.close (tie.spec Inv-places μ-places Inv-elements μ-elements elements-holds places-holds mul-combined
+    mul-combined-2 add-combined mul-combined-3 combined-requires (λ c. search needs) (λ c. search needs)
+    (λ c. search needs) slice-write-out (λ c. search needs) (λ c. search needs) places-again (λ c. search needs)
+    (λ c. search needs) elements-again same-length returns)
