@@ -86,21 +86,21 @@ const KEYGEN: Call = Call {
     name: "keygen",
     pairs: 32,
     singles: 37,
-    of_rust: 0.78,
+    of_rust: 0.65,
     of_floor: 1.25,
 };
 const ENC: Call = Call {
     name: "enc",
     pairs: 31,
     singles: 39,
-    of_rust: 0.78,
+    of_rust: 0.65,
     of_floor: 1.25,
 };
 const DEC: Call = Call {
     name: "dec, opened",
     pairs: 62,
     singles: 7,
-    of_rust: 0.52,
+    of_rust: 0.4,
     of_floor: 1.4,
 };
 const DEC_REFUSED: Call = Call {
