@@ -81,7 +81,9 @@ elements-again c =
     (omega arith, flattened-at (let n : e * 64 + l .places .k ≡ (e + 1) * 64 = omega arith in n) (l .places .inv .1))
 
 same-length : tie.Need-same-length Inv-places μ-places Inv-elements μ-elements
-same-length c = c .before .elements .inv .1 .size ∙ sym (c .before .before .before .before .before .pre .0 .1)
+same-length c =
+    let entered = c .before .before .before .before .before in
+    c .before .elements .inv .1 .size ∙ sym (entered .pre .0 .1)
 
 returns : tie.Need-returns Inv-places μ-places Inv-elements μ-elements
 returns c = flattened-all (c .before .elements .e) (omega arith) (c .before .elements .inv .1)
