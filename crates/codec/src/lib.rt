@@ -1,9 +1,23 @@
-// Numbers of 64 bits as eight bytes, lowest first, and bytes copied.
+// Numbers of 64 bits as eight bytes, lowest first, and bytes copied; the sizes of keys and packets.
 ghost use mathlib.Core.Path.{_≡_};
 ghost use Prim.Native.Nat.{_+_, _*_, _<_, _≤_};
 ghost use lib.ListN.{length};
 ghost use Rattle.codec.specs.Layout.{word, words, bytes, with-word};
 
+// ---- sizes: specs/Sizes says what each is made of
+pub const SECRET_KEY_BYTES: usize = 64;
+
+pub const PUBLIC_KEY_BYTES: usize = 2080;
+
+pub const CIPHERTEXT_NUMBERS: usize = 320;
+
+pub const CIPHERTEXT_BYTES: usize = 2560;
+
+pub const SHARED_KEY_BYTES: usize = 32;
+
+pub const RANDOMNESS_BYTES: usize = 32;
+
+// ---- bytes and numbers
 // A byte as a number: asks for no proof that it fits.
 fn wide(x: u8) -> u64
     ensures { λ r. ⌜ (r ≡ x) × (r < 256) ⌝ }

@@ -1,5 +1,6 @@
 -- Definitions that other crates' definitions are written with.
 pub mod Lists
+pub mod Choices
 pub mod Bits
 pub mod Congruence
 pub mod Rings

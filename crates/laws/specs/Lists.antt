@@ -1,8 +1,8 @@
--- Lists given by an index. Assumes nothing.
+-- Lists given by an index, and parts of lists.
 use mathlib.Core.Path.{_≡_}
 use mathlib.Core.List.{List, [], _∷_}
 use Prim.Native.Nat.{ℕ, zero, suc, _<_}
-use lib.ListN.{length, getD}
+use lib.ListN.{length, getD, take, drop}
 
 -- f i, f (i + 1), .. : n of them
 unfoldable pub tabFrom : {A : Type 0} → ℕ → ℕ → (ℕ → A) → List A
@@ -17,3 +17,11 @@ tab n f = tabFrom 0 n f
 pub record Below (b n : ℕ) (l : List ℕ) : Type 0 where
   pub size : length l ≡ n
   pub each : (i : ℕ) → getD l i 0 < b
+
+-- n zeros
+unfoldable pub zeros : ℕ → List ℕ
+zeros n = tab n (λ i. 0)
+
+-- n numbers from place k on
+abbrev pub part : ℕ → ℕ → List ℕ → List ℕ
+part k n l = take n (drop k l)
