@@ -1,10 +1,10 @@
--- What the loops of a stage do to the array: a butterfly at two places, t of them a block, m blocks a stage. Assumes nothing.
+-- What the loops of a stage do to the array: a butterfly at two places, t of them a block, m blocks a stage.
 use mathlib.Core.Path.{_≡_, refl, sym, _∙_, ap, subst}
 use mathlib.Core.Bool.{Bool, true, false}
 use mathlib.Core.List.{List}
 use mathlib.Core.Logic.{_⊎_, ⊎-elim}
 use Prim.Native.Nat.{ℕ, _+_, _*_, _-_, _/_, _%_, _≤_, _<_}
-use native.Mathlib.Nat.{mul-le-mul-right}
+use native.Mathlib.Nat.{le-refl, mul-le-mul-right}
 use native.Mathlib.Omega.{arith}
 use native.Mathlib.Decide.{ℕ-discrete}
 use borrow.Author.Tests.{lt-ltb, le-ltb}
@@ -18,6 +18,7 @@ use Rattle.laws.proofs.Updates.{Filled, mapped-none, mapped-all}
 use Rattle.laws.proofs.Bounds.{mapped-below}
 use Rattle.field.specs.Field.{P, Coefficients}
 use Rattle.ring.specs.Stages.{Butterflied, stage-at}
+use Rattle.ring.proofs.Zetas.{entry-is}
 
 module _ (f g : ℕ → ℕ → ℕ) (s t : ℕ) where
   pub butterflied-none : (l : List ℕ) → Butterflied f g s t s l l
@@ -67,9 +68,39 @@ module _ (f g : ℕ → ℕ → ℕ) (s t : ℕ) where
         highs p q r (yes e) = subst (λ n. getD made (n + t) 0 ≡ g (getD old n 0) (getD old (n + t) 0)) (sym e) at-high
         highs p q r (no e) = elsewhere (p + t) (λ w. omega arith) (λ w. omega arith) ∙ x .high p q (omega arith)
 
--- the loop's end
-pub butterflied-all : {f g : ℕ → ℕ → ℕ} {s t i j : ℕ} {old new : List ℕ} → i ≡ j → Butterflied f g s t i old new → Butterflied f g s t j old new
-butterflied-all {f} {g} {s} {t} {i} {j} {old} {new} e b = subst (λ n. Butterflied f g s t n old new) e b
+-- the loop of one block, with the zeta z, from s up to end, has come to j
+pub record Turned (f g : ℕ → ℕ → ℕ → ℕ) (z s t end j : ℕ) (old new : List ℕ) : Type 0 where
+  pub from : s ≤ j
+  pub to : j ≤ end
+  pub ends : end ≡ s + t
+  pub fits : s + t + t ≤ 64
+  pub canonical : Coefficients 64 old
+  pub done : Butterflied (f z) (g z) s t j old new
+
+pub turned-none : {f g : ℕ → ℕ → ℕ → ℕ} {z s t : ℕ} {l : List ℕ} → Coefficients 64 l → s + t + t ≤ 64 → Turned f g z s t (s + t) s l l
+turned-none c h = record { from = omega arith; to = omega arith; ends = refl; fits = h; canonical = c; done = butterflied-none _ _ _ _ _ }
+
+module _ {f g : ℕ → ℕ → ℕ → ℕ} {z s t end j : ℕ} {old new : List ℕ} (x : Turned f g z s t end j old new) where
+  -- the two numbers of the next turn are not touched yet
+  pub turned-low : j < end → getD new j 0 < P
+  turned-low h = rw (x .done .between j (le-refl j) (omega (arith, x .ends))) (x .canonical .each j)
+
+  pub turned-high : j < end → getD new (j + t) 0 < P
+  turned-high h = rw (x .done .after (j + t) (le-refl (j + t))) (x .canonical .each (j + t))
+
+  pub turned-more : {a b : ℕ} → j < end → a ≡ f z (getD new j 0) (getD new (j + t) 0) → b ≡ g z (getD new j 0) (getD new (j + t) 0)
+      → Turned f g z s t end (j + 1) old (set (set new j a) (j + t) b)
+  turned-more {a} {b} h ea eb = record {
+    from = omega (arith, x .from);
+    to = omega arith;
+    ends = x .ends;
+    fits = x .fits;
+    canonical = x .canonical;
+    done = butterflied-more (f z) (g z) s t j a b old new (x .from) (omega arith) (omega (arith, x .canonical .size)) (x .done) ea eb;
+  }
+
+  pub turned-all : j ≡ end → Butterflied (f z) (g z) s t (s + t) old new
+  turned-all e = subst (λ n. Butterflied (f z) (g z) s t n old new) (e ∙ x .ends) (x .done)
 
 module _ (f g : ℕ → ℕ → ℕ → ℕ) (table : ℕ → ℕ) (m t : ℕ) (old : List ℕ) where
   abbrev rule : ℕ → ℕ
@@ -145,14 +176,16 @@ module _ (m t i : ℕ) (size : m * (t + t) ≡ 64) (h : i < m) where
       empty e = let g : m * (0 + 0) ≡ 64 = subst (λ n. m * (n + n) ≡ 64) e size in omega arith
 
 -- ---- a stage of either transform
--- the two new numbers of a butterfly and the table of zetas, all canonical
+-- the two new numbers of a butterfly, both canonical, and its zeta; and what the code's table holds, of which it makes the zeta
 pub record Step : Type 0 where
   pub low : ℕ → ℕ → ℕ → ℕ
   pub high : ℕ → ℕ → ℕ → ℕ
   pub table : ℕ → ℕ
   pub low-below : (z u w : ℕ) → low z u w < P
   pub high-below : (z u w : ℕ) → high z u w < P
-  pub reduced : (k : ℕ) → table k % P ≡ table k
+  pub held : ℕ → ℕ
+  pub made : ℕ → ℕ
+  pub is : (k : ℕ) → made (held k) ≡ table k
 
 abbrev pub step-at : Step → ℕ → ℕ → List ℕ → ℕ → ℕ
 step-at S = stage-at (S .low) (S .high) (S .table)
@@ -188,15 +221,18 @@ module _ {S : Step} {m t : ℕ} {old : List ℕ} {i : ℕ} {now : List ℕ} (x :
   pub staged-entry : i < m → m + i < 64
   staged-entry h = entry-fits m t i (x .size) h
 
-  -- one block more, with the zeta that stands in the table
-  pub staged-more : (z : ℕ) {new : List ℕ} → i < m → z ≡ S .table (m + i) % P
+  -- one block more, with the zeta that is made of the table's entry
+  pub staged-more : {z : ℕ} {entries new : List ℕ} → i < m → entries ≡ tab 64 (S .held) → z ≡ S .made (getD entries (m + i) 0)
       → Butterflied (S .low z) (S .high z) (i * (t + t)) t (i * (t + t) + t) now new → Staged S m t old (i + 1) new
-  staged-more z {new} h e b = record {
+  staged-more {z} {entries} {new} h l e b = record {
     size = x .size;
     canonical = x .canonical;
     within = omega arith;
-    done = stage-more (S .low) (S .high) (S .table) m t old i z now new (e ∙ S .reduced (m + i)) (x .done) b;
+    done = stage-more (S .low) (S .high) (S .table) m t old i z now new zeta (x .done) b;
   }
+    where
+      zeta : z ≡ S .table (m + i)
+      zeta = e ∙ ap (S .made) (entry-is (S .held) (m + i) (staged-entry h) l) ∙ S .is (m + i)
 
   pub staged-all : i ≡ m → (now ≡ tab 64 (step-at S m t old)) × Coefficients 64 now
   staged-all e = (stage-all (S .low) (S .high) (S .table) m t old i now e (x .size) (x .canonical .size) (x .done), staged-canonical)

@@ -1,13 +1,14 @@
--- The elements of a flat list of ring elements. Assumes nothing.
+-- The elements of a flat list of ring elements.
 use mathlib.Core.Path.{_≡_, sym, _∙_, ap, subst}
 use mathlib.Core.List.{List}
 use Prim.Native.Nat.{ℕ, _+_, _*_, _-_, _/_, _%_, _≤_, _<_}
 use native.Mathlib.Omega.{arith}
 use native.Mathlib.Decide.{ℕ-discrete}
-use lib.ListN.{length, getD, set, take, drop, length-set, length-drop}
+use lib.ListN.{length, getD, set, drop, length-set, length-drop}
 use lib.Seq.{getD-set-same, getD-set-other, length-take-le, getD-take, getD-drop}
+use Rattle.laws.specs.Lists.{part}
 use Rattle.laws.proofs.Lists.{getD-tab, is-tab, tab-ext}
-use Rattle.laws.proofs.Bounds.{tab-below}
+use Rattle.laws.proofs.Bounds.{tab-below, below-as}
 use Rattle.laws.proofs.Updates.{Filled, mapped-none, mapped-at, mapped-end}
 use Rattle.laws.proofs.Parts.{put, mapped-put}
 use Rattle.field.specs.Field.{P, Coefficients}
@@ -107,32 +108,52 @@ module _ {f : ℕ → List ℕ} {count : ℕ} {l : List ℕ} where
   unfolding flat
   flattened-all n e c = is-tab (count * 64) (λ x. getD (f (x / 64)) (x % 64) 0) 0 l (c .size) (λ x h. c .passed x (omega arith))
 
--- ---- elements transformed in place, one after the other
--- the part that a turn is lent is the next element as it was
-pub part-cell : {g : ℕ → ℕ} {old new : List ℕ} (i : ℕ) → i * 64 + 64 ≤ length old → Filled g (i * 64) old new
-    → take 64 (drop (i * 64) new) ≡ cell old i
-unfolding cell
-part-cell {new = new} i h m =
-    is-tab 64 _ 0 (take 64 (drop (i * 64) new))
-    (length-take-le 64 (drop (i * 64) new) (omega (arith, length-drop (i * 64) new, m .same-length)))
-    (λ k l. getD-take 64 (drop (i * 64) new) k 0 l ∙ getD-drop (i * 64) new k 0 ∙ m .rest (i * 64 + k) (omega arith))
+-- ---- elements transformed in place, one after the other: i of n are done
+pub record Transformed (n i : ℕ) (old new : List ℕ) : Type 0 where
+  pub canonical : Coefficients (n * 64) old
+  pub within : i ≤ n
+  pub done : Filled (λ x. getD (transform (cell old (x / 64))) (x % 64) 0) (i * 64) old new
 
-abbrev pub Transformed : ℕ → List ℕ → List ℕ → Type 0
-Transformed i old new = Filled (λ x. getD (transform (cell old (x / 64))) (x % 64) 0) (i * 64) old new
+pub transformed-none : {n : ℕ} {old : List ℕ} → Coefficients (n * 64) old → Transformed n 0 old old
+transformed-none c = record { canonical = c; within = omega arith; done = mapped-none _ _ }
 
-pub transformed-none : (old : List ℕ) → Transformed 0 old old
-transformed-none old = mapped-none _ old
+-- the places from i * 64 up to i * 64 + 64
+abbrev pub width : ℕ → ℕ
+width i = i * 64 + 64 - i * 64
 
-pub transformed-more : (i : ℕ) (old new r : List ℕ) → i * 64 + 64 ≤ length old → Transformed i old new → r ≡ transform (take 64 (drop (i * 64) new))
-    → Transformed (i + 1) old (put (i * 64) 64 r new)
-transformed-more i old new r h t e =
-    let is : r ≡ transform (cell old i) = e ∙ ap transform (part-cell i h t) in
-    let n : i * 64 + 64 ≡ (i + 1) * 64 = omega arith in
-    mapped-at n (mapped-put _ (i * 64) 64 r old new (ap length is ∙ transform-canonical (cell old i) .size) h (λ k l.
-    let d : i ≡ (i * 64 + k) / 64 = omega arith in
-    let o : k ≡ (i * 64 + k) % 64 = omega arith in
-    ap (λ l. getD l k 0) is ∙ (λ j. getD (transform (cell old (d j))) (o j) 0)) t)
+module _ {n i : ℕ} {old new : List ℕ} (t : Transformed n i old new) (h : i < n) where
+  -- what a turn is lent is the next element as it was
+  part-cell : part (i * 64) (width i) new ≡ cell old i
+  unfolding cell
+  part-cell =
+      let e : width i ≡ 64 = omega arith in
+      let s : i * 64 + 64 ≤ length new = omega (arith, t .canonical .size, t .done .same-length) in
+      is-tab 64 _ 0 (part (i * 64) (width i) new) (length-take-le (width i) (drop (i * 64) new) (omega (arith, length-drop (i * 64) new)) ∙ e)
+      (λ k l. getD-take (width i) (drop (i * 64) new) k 0 (omega arith) ∙ getD-drop (i * 64) new k 0 ∙ t .done .rest (i * 64 + k) (omega arith))
 
-pub transformed-all : (n i : ℕ) (old new : List ℕ) → i ≡ n → length old ≡ n * 64 → Transformed i old new → new ≡ transforms n old
+  pub transformed-next : Coefficients 64 (part (i * 64) (width i) new)
+  transformed-next = below-as part-cell (cell-canonical old (t .canonical .each) i)
+
+  pub transformed-more : {r : List ℕ} → r ≡ transform (part (i * 64) (width i) new) → Transformed n (i + 1) old (put (i * 64) (width i) r new)
+  transformed-more {r} e = record {
+    canonical = t .canonical;
+    within = omega arith;
+    done =
+        let size : length r ≡ width i = ap length is ∙ transform-canonical (cell old i) .size ∙ (let w : 64 ≡ width i = omega arith in w) in
+        let fits : i * 64 + width i ≤ length old = omega (arith, t .canonical .size) in
+        mapped-at (let s : i * 64 + width i ≡ (i + 1) * 64 = omega arith in s)
+        (mapped-put _ (i * 64) (width i) r old new size fits (λ k l. at k (omega arith)) (t .done));
+  }
+    where
+      is : r ≡ transform (cell old i)
+      is = e ∙ ap transform part-cell
+
+      at : (k : ℕ) → k < 64 → getD r k 0 ≡ getD (transform (cell old ((i * 64 + k) / 64))) ((i * 64 + k) % 64) 0
+      at k l =
+          let d : i ≡ (i * 64 + k) / 64 = omega arith in
+          let o : k ≡ (i * 64 + k) % 64 = omega arith in
+          ap (λ l. getD l k 0) is ∙ (λ j. getD (transform (cell old (d j))) (o j) 0)
+
+pub transformed-all : {n i : ℕ} {old new : List ℕ} → Transformed n i old new → i ≡ n → new ≡ transforms n old
 unfolding transforms flat
-transformed-all n i old new e h t = mapped-end _ (n * 64) (i * 64) old new (ap (λ k. k * 64) e) h t
+transformed-all {n} {i} {old} {new} t e = mapped-end _ (n * 64) (i * 64) old new (ap (λ k. k * 64) e) (t .canonical .size) (t .done)

@@ -1,4 +1,4 @@
--- What the loops of the matrix product store, place after place: four products, reduced once. Assumes nothing.
+-- What the loops of the matrix product store, place after place: four products, reduced once.
 use mathlib.Core.Path.{_≡_, sym, _∙_, ap}
 use mathlib.Core.List.{List}
 use Prim.Native.Nat.{ℕ, _+_, _*_, _%_, _≤_, _<_}
@@ -10,6 +10,10 @@ use Rattle.laws.proofs.Lists.{getD-tab}
 use Rattle.field.specs.Field.{P}
 use Rattle.ring.specs.Matrices.{cell, dot}
 use Rattle.ring.proofs.Cells.{cell-at}
+
+-- element e of a vector of four times a matrix whose elements are taken `step` apart
+abbrev pub times : List ℕ → List ℕ → ℕ → ℕ → ℕ → List ℕ
+times v m row step e = dot 4 (cell v) (λ q. cell m (e * row + q * step))
 
 -- what `combined` gives is place k of four elements times four
 module _ (v m : List ℕ) (e row step k at : ℕ) (hk : k < 64) (ha : at ≡ e * row * 64 + k) where
@@ -23,7 +27,7 @@ module _ (v m : List ℕ) (e row step k at : ℕ) (hk : k < 64) (ha : at ≡ e *
   pub dot-four : (r : ℕ)
       → r ≡ (getD v k 0 * getD m at 0 + getD v (64 + k) 0 * getD m (at + step * 64) 0
       + getD v (128 + k) 0 * getD m (at + 2 * (step * 64)) 0 + getD v (192 + k) 0 * getD m (at + 3 * (step * 64)) 0) % P
-      → r ≡ getD (dot 4 (cell v) (λ q. cell m (e * row + q * step))) k 0
+      → r ≡ getD (times v m row step e) k 0
   unfolding dot total
   dot-four r hr =
       hr

@@ -1,25 +1,25 @@
--- The six stages forward are the transform: each stage halves the blocks and keeps the values. Assumes nothing.
+-- The six stages forward are the transform: each stage halves the blocks and keeps the values.
 use mathlib.Core.Path.{_≡_, refl, sym, _∙_, ap, subst}
 use mathlib.Core.List.{List}
 use Prim.Native.Nat.{ℕ, _+_, _*_, _-_, _%_, _/_, _<_}
 use native.Mathlib.Nat.{mod-lt}
 use native.Mathlib.Omega.{arith}
 use native.Mathlib.Decide.{ℕ-discrete}
-use lib.ListN.{getD}
+use lib.ListN.{getD, set}
 use Rattle.laws.specs.Rings.{pow, poly}
 use Rattle.laws.proofs.Lists.{getD-tab}
 use Rattle.laws.proofs.Bounds.{tab-below}
 use Rattle.laws.proofs.Sums.{pow-add, pow-one, poly-ext, poly-one}
 use Rattle.laws.proofs.Residues.{mk-mod, mk-add, mk-mul, mk-sub}
 use Rattle.laws.proofs.Halving.{fwd-left, fwd-right, neg-sq}
-use Rattle.field.specs.Field.{P, Coefficients}
+use Rattle.field.specs.Field.{P, reduced, Coefficients}
 use Rattle.ring.specs.Transform.{zeta, transform}
-use Rattle.ring.specs.Stages.{sum-of, difference-of, stage-at, forward}
+use Rattle.ring.specs.Stages.{zeta-word, sum-of, difference-of, stage-at, forward}
 use Rattle.ring.proofs.Residue.{F, el, co, p-pos, same}
-use Rattle.ring.proofs.Tables.{zeta-reduced}
+use Rattle.ring.proofs.Zetas.{zeta-reduced, zeta-word-number}
 use Rattle.ring.proofs.Roots.{W, roots, heap-even}
 use Rattle.ring.proofs.Transforms.{transform-canonical, transform-value}
-use Rattle.ring.proofs.Blocks.{rule-low, rule-high, Step, step-below, block-fits, entry-fits}
+use Rattle.ring.proofs.Blocks.{rule-low, rule-high, Step, step-below, Turned, turned-more, block-fits, entry-fits}
 
 abbrev pub onward : Step
 onward = record {
@@ -28,8 +28,17 @@ onward = record {
   table = zeta;
   low-below = λ z u w. mod-lt _ p-pos;
   high-below = λ z u w. mod-lt _ p-pos;
-  reduced = zeta-reduced;
+  held = zeta-word;
+  made = reduced;
+  is = λ k. zeta-word-number k ∙ zeta-reduced k;
 }
+
+-- one turn of the loop over a block: v is the upper number times the zeta
+pub turned-forward : {z s t end j a b v : ℕ} {old new : List ℕ} → Turned sum-of difference-of z s t end j old new → j < end
+    → v ≡ z * getD new (j + t) 0 % P → a ≡ (getD new j 0 + v) % P → b ≡ (getD new j 0 + (P - v)) % P
+    → Turned sum-of difference-of z s t end (j + 1) old (set (set new j a) (j + t) b)
+turned-forward {j = j} {new = new} x h ev ea eb =
+    turned-more x h (ea ∙ ap (λ n. (getD new j 0 + n) % P) ev) (eb ∙ ap (λ n. (getD new j 0 + (P - n)) % P) ev)
 
 pub forward-canonical : (m t : ℕ) (l : List ℕ) → Coefficients 64 (forward m t l)
 unfolding forward
@@ -67,23 +76,33 @@ module _ (m t : ℕ) (size : m * (t + t) ≡ 64) (f : F .A → F .A) (l : List �
     z-is : W (m + i + (m + i)) ≡ el (zeta (m + i))
     z-is = ap (λ n. el n) (heap-even (m + i) node)
 
-    low-at : (j : ℕ) → j < t → co (forward m t l) (i * (t + t) + j) ≡ F .add (co l (i * (t + t) + j)) (F .mul (co l (i * (t + t) + (t + j))) (el (zeta (m + i))))
-    unfolding forward
-    low-at j q =
-        let e : i * (t + t) + j + t ≡ i * (t + t) + (t + j) = omega arith in
-        ap (λ n. el n) (getD-tab 64 (stage-at sum-of difference-of zeta m t l) 0 (i * (t + t) + j) (omega (arith, block-fits m t i size h))
-        ∙ rule-low sum-of difference-of zeta m t l i j q)
-        ∙ el-sum (zeta (m + i)) (getD l (i * (t + t) + j) 0) (getD l (i * (t + t) + j + t) 0)
-        ∙ ap (λ n. F .add (co l (i * (t + t) + j)) (F .mul (co l n) (el (zeta (m + i))))) e
+    -- the two numbers of a butterfly, before it
+    abbrev lower : ℕ → F .A
+    lower j = co l (i * (t + t) + j)
 
-    high-at : (j : ℕ) → j < t → co (forward m t l) (i * (t + t) + j + t) ≡ F .add (co l (i * (t + t) + j)) (F .neg (F .mul (co l (i * (t + t) + (t + j))) (el (zeta (m + i)))))
+    abbrev upper : ℕ → F .A
+    upper j = co l (i * (t + t) + (t + j))
+
+    entry : (x : ℕ) → x < 64 → co (forward m t l) x ≡ el (stage-at sum-of difference-of zeta m t l x)
     unfolding forward
+    entry x q = ap (λ n. el n) (getD-tab 64 (stage-at sum-of difference-of zeta m t l) 0 x q)
+
+    at-upper : (j : ℕ) → i * (t + t) + j + t ≡ i * (t + t) + (t + j)
+    at-upper j = omega arith
+
+    low-at : (j : ℕ) → j < t → co (forward m t l) (i * (t + t) + j) ≡ F .add (lower j) (F .mul (upper j) (el (zeta (m + i))))
+    low-at j q =
+        entry (i * (t + t) + j) (omega (arith, block-fits m t i size h))
+        ∙ ap (λ n. el n) (rule-low sum-of difference-of zeta m t l i j q)
+        ∙ el-sum (zeta (m + i)) (getD l (i * (t + t) + j) 0) (getD l (i * (t + t) + j + t) 0)
+        ∙ (λ k. F .add (lower j) (F .mul (co l (at-upper j k)) (el (zeta (m + i)))))
+
+    high-at : (j : ℕ) → j < t → co (forward m t l) (i * (t + t) + j + t) ≡ F .add (lower j) (F .neg (F .mul (upper j) (el (zeta (m + i)))))
     high-at j q =
-        let e : i * (t + t) + j + t ≡ i * (t + t) + (t + j) = omega arith in
-        ap (λ n. el n) (getD-tab 64 (stage-at sum-of difference-of zeta m t l) 0 (i * (t + t) + j + t) (omega (arith, block-fits m t i size h))
-        ∙ rule-high sum-of difference-of zeta m t l i j q)
+        entry (i * (t + t) + j + t) (omega (arith, block-fits m t i size h))
+        ∙ ap (λ n. el n) (rule-high sum-of difference-of zeta m t l i j q)
         ∙ el-difference (zeta (m + i)) (getD l (i * (t + t) + j) 0) (getD l (i * (t + t) + j + t) 0)
-        ∙ ap (λ n. F .add (co l (i * (t + t) + j)) (F .neg (F .mul (co l n) (el (zeta (m + i)))))) e
+        ∙ (λ k. F .add (lower j) (F .neg (F .mul (co l (at-upper j k)) (el (zeta (m + i))))))
 
     left : Block f (forward m t l) (m + m + (i + i)) ((i + i) * t) t
     left y r =
@@ -132,8 +151,8 @@ module _ (l : List ℕ) where
       ∙ sym (transform-value l cl r h))
 
 -- six stages, one after the other
-pub forward-transform : {a b c d e f g : List ℕ} → Coefficients 64 a → b ≡ forward 1 32 a → c ≡ forward 2 16 b → d ≡ forward 4 8 c → e ≡ forward 8 4 d
-    → f ≡ forward 16 2 e → g ≡ forward 32 1 f → g ≡ transform a
+pub forward-transform : {a b c d e f g : List ℕ} → Coefficients 64 a → b ≡ forward 1 32 a → c ≡ forward 2 16 b → d ≡ forward 4 8 c
+    → e ≡ forward 8 4 d → f ≡ forward 16 2 e → g ≡ forward 32 1 f → g ≡ transform a
 forward-transform {a} h eb ec ed ee ef eg =
     eg ∙ ap (forward 32 1) (ef ∙ ap (forward 16 2) (ee ∙ ap (forward 8 4) (ed ∙ ap (forward 4 8) (ec ∙ ap (forward 2 16) eb))))
     ∙ last a _ h (forward-canonical 32 1 _)

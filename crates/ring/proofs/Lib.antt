@@ -6,9 +6,10 @@ pub mod Products
 pub mod Remainders
 pub mod Polynomials
 pub mod Cells
+pub mod Assigned
 pub mod Matrices
 pub mod Blocks
 pub mod Forward
-pub mod Tables
+pub mod Zetas
 pub mod Backward
 pub mod Dots

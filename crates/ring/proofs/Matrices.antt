@@ -1,5 +1,5 @@
 -- Products of vectors and matrices of ring elements, over any height, inner size and width: cell by cell, associative; and what an opening leaves.
--- Assumes nothing.
+--
 use mathlib.Core.Path.{_≡_, refl, sym, _∙_, ap}
 use mathlib.Core.List.{List}
 use Prim.Native.Nat.{ℕ, _+_, _*_, _/_, _%_, _<_}
@@ -23,7 +23,8 @@ use Rattle.ring.specs.Matrices.{cell, flat, dot, ring-dot, matrix}
 use Rattle.ring.proofs.Residue.{F, co, co-tab, p-pos, same, remainders}
 use Rattle.ring.proofs.Roots.{W}
 use Rattle.ring.proofs.Transforms.{transform-canonical, transform-value, untransform-transform}
-use Rattle.ring.proofs.Products.{plus-canonical, minus-canonical, product-canonical, plus-is, minus-is, hadamard-is, transform-product, transform-plus, transform-minus}
+use Rattle.ring.proofs.Products.{plus-canonical, minus-canonical, product-canonical, plus-is, minus-is, hadamard-is}
+use Rattle.ring.proofs.Products.{transform-product, transform-plus, transform-minus}
 use Rattle.ring.proofs.Cells.{cell-whole, cell-flat, flat-ext, flat-canonical}
 
 pub dot-canonical : (n : ℕ) (u v : ℕ → List ℕ) → Coefficients 64 (dot n u v)
@@ -146,7 +147,8 @@ matrix-assoc h n m w a b c = flat-ext (h * w) _ _ (λ e l. at e l (pos e l))
     pos e l = ⊎-elim (λ z. let g : h * w ≡ h * 0 = ap (λ x. h * x) (let y : w ≡ 0 = omega arith in y) in absurd (omega arith)) (λ z. z) (le-or-lt w 0)
 
     at : (e : ℕ) → e < h * w → 0 < w
-        → dot n (λ q. cell a (e / w * n + q)) (λ q. cell (matrix n m w b c) (q * w + e % w)) ≡ dot m (λ q. cell (matrix h n m a b) (e / w * m + q)) (λ q. cell c (q * w + e % w))
+        → dot n (λ q. cell a (e / w * n + q)) (λ q. cell (matrix n m w b c) (q * w + e % w))
+        ≡ dot m (λ q. cell (matrix h n m a b) (e / w * m + q)) (λ q. cell c (q * w + e % w))
     at e l z =
         let i : e / w < h = div-lt-iff-lt-mul z .1 l in
         dot-ext n _ _ _ _ (λ q g. refl) (λ q g. matrix-cell n m w b c q (e % w) g (mod-lt e z))
@@ -199,13 +201,15 @@ module _ (n m : ℕ) (G : ℕ → ℕ → List ℕ) (a b c d : ℕ → List ℕ)
       left k h =
           plus-is 64 (dot n B (ga n m G a b c d e)) (transform e) k h
           ∙ ap (λ w. F .add w (co (transform e) k)) (dot-is n B (ga n m G a b c d e) k h
-          ∙ sum-ext F n _ _ (λ r l. ap (λ w. F .mul (co (B r) k) w) (plus-is 64 (dot m (G r) A) (C r) k h ∙ ap (λ w. F .add w (co (C r) k)) (dot-is m (G r) A k h))))
+          ∙ sum-ext F n _ _ (λ r l. ap (λ w. F .mul (co (B r) k) w)
+          (plus-is 64 (dot m (G r) A) (C r) k h ∙ ap (λ w. F .add w (co (C r) k)) (dot-is m (G r) A k h))))
 
       right : (k : ℕ) → k < 64 → co (dot m (bg n m G a b c d e) A) k
           ≡ sum F m (λ s. F .mul (F .add (sum F n (λ r. F .mul (co (B r) k) (co (G r s) k))) (co (D s) k)) (co (A s) k))
       right k h =
           dot-is m (bg n m G a b c d e) A k h
-          ∙ sum-ext F m _ _ (λ s l. ap (λ w. F .mul w (co (A s) k)) (plus-is 64 (dot n B (λ r. G r s)) (D s) k h ∙ ap (λ w. F .add w (co (D s) k)) (dot-is n B (λ r. G r s) k h)))
+          ∙ sum-ext F m _ _ (λ s l. ap (λ w. F .mul w (co (A s) k))
+          (plus-is 64 (dot n B (λ r. G r s)) (D s) k h ∙ ap (λ w. F .add w (co (D s) k)) (dot-is n B (λ r. G r s) k h)))
 
   -- e + b·c - d·a
   pub opened : untransform (minus 64 (bga-m n m G a b c d e) (dot m (bg n m G a b c d e) (λ s. transform (a s))))

@@ -1,4 +1,4 @@
--- Lists of 64 canonical numbers, with `plus` and `product`, are a commutative ring. Assumes nothing.
+-- Lists of 64 canonical numbers, with `plus` and `product`, are a commutative ring.
 use mathlib.Core.Path.{_≡_, sym, _∙_, ap}
 use mathlib.Core.HLevel.{Σ-prop-path}
 use mathlib.Core.Bool.{Bool, true, false}
@@ -6,7 +6,7 @@ use mathlib.Core.List.{List}
 use Prim.Native.Nat.{ℕ, _<_}
 use lib.Dec.{eqb, lit<}
 use lib.ListN.{getD}
-use Rattle.laws.specs.Lists.{tab, tabFrom}
+use Rattle.laws.specs.Lists.{tab, tabFrom, zeros}
 use Rattle.laws.specs.Rings.{CRing}
 use Rattle.laws.proofs.Tests.{equal-at}
 use Rattle.laws.proofs.Lists.{getD-tab}
@@ -17,16 +17,14 @@ use Rattle.ring.specs.Transform.{brv, value, point, transform}
 use Rattle.ring.specs.Elements.{plus, minus, product}
 use Rattle.ring.proofs.Residue.{F, el, co, p-pos, same}
 use Rattle.ring.proofs.Transforms.{transform-inj, transform-canonical}
-use Rattle.ring.proofs.Products.{plus-canonical, minus-canonical, product-canonical, plus-is, minus-is, hadamard-is, transform-product, transform-plus}
+use Rattle.ring.proofs.Products.{plus-canonical, minus-canonical, product-canonical, plus-is, minus-is, hadamard-is}
+use Rattle.ring.proofs.Products.{transform-product, transform-plus}
 
--- 0 and 1
-unfoldable pub zeros : List ℕ
-zeros = tab 64 (λ k. 0)
-
+-- 1; 0 is `zeros 64`
 unfoldable pub one : List ℕ
 one = tab 64 (λ k. elim (eqb k 0) [ true ↦ 1 | false ↦ 0 ])
 
-zeros-canonical : Coefficients 64 zeros
+zeros-canonical : Coefficients 64 (zeros 64)
 unfolding zeros
 zeros-canonical = tab-below P 64 (λ k. 0) p-pos (λ k h. p-pos)
 
@@ -38,7 +36,7 @@ one-canonical = tab-below P 64 (λ k. elim (eqb k 0) [ true ↦ 1 | false ↦ 0 
     go true = lit< tt
     go false = lit< tt
 
-zeros-is : (k : ℕ) → k < 64 → co zeros k ≡ F .𝟘
+zeros-is : (k : ℕ) → k < 64 → co (zeros 64) k ≡ F .𝟘
 unfolding zeros
 zeros-is k h = ap (λ n. el n) (getD-tab 64 (λ i. 0) 0 k h)
 
@@ -65,7 +63,7 @@ element-path a b e = Σ-prop-path (λ (l : List ℕ). below-prop P 64 l) {u = a}
 
 places-path : (a b : Element) → ((r : ℕ) → r < 64 → at (a .0) r ≡ at (b .0) r) → a ≡ b
 places-path a b e = Σ-prop-path (λ (l : List ℕ). below-prop P 64 l) {u = a} {v = b}
-    (transform-inj (a .0) (b .0) (a .1) (b .1) (same 64 (transform (a .0)) (transform (b .0)) (transform-canonical (a .0)) (transform-canonical (b .0)) e))
+    (transform-inj (a .0) (b .0) (a .1) (b .1) (same 64 _ _ (transform-canonical (a .0)) (transform-canonical (b .0)) e))
 
 abbrev pub add : Element → Element → Element
 add a b = (plus 64 (a .0) (b .0), plus-canonical 64 (a .0) (b .0))
@@ -74,7 +72,7 @@ abbrev pub mul : Element → Element → Element
 mul a b = (product (a .0) (b .0), product-canonical (a .0) (b .0))
 
 abbrev pub neg : Element → Element
-neg a = (minus 64 zeros (a .0), minus-canonical 64 zeros (a .0))
+neg a = (minus 64 (zeros 64) (a .0), minus-canonical 64 (zeros 64) (a .0))
 
 add-is : (a b : Element) (j : ℕ) → j < 64 → co (add a b .0) j ≡ F .add (co (a .0) j) (co (b .0) j)
 add-is a b = plus-is 64 (a .0) (b .0)
@@ -93,14 +91,17 @@ add-assoc a b c = element-path (add (add a b) c) (add a (add b c)) (λ j h.
 add-comm : (a b : Element) → add a b ≡ add b a
 add-comm a b = element-path (add a b) (add b a) (λ j h. add-is a b j h ∙ F .add-comm (co (a .0) j) (co (b .0) j) ∙ sym (add-is b a j h))
 
-add-zero : (a : Element) → add a (zeros, zeros-canonical) ≡ a
-add-zero a = element-path (add a (zeros, zeros-canonical)) a (λ j h.
-    add-is a (zeros, zeros-canonical) j h ∙ ap (λ w. F .add (co (a .0) j) w) (zeros-is j h) ∙ F .add-zero (co (a .0) j))
+add-zero : (a : Element) → add a (zeros 64, zeros-canonical) ≡ a
+add-zero a = element-path (add a (zeros 64, zeros-canonical)) a (λ j h.
+    add-is a (zeros 64, zeros-canonical) j h ∙ ap (λ w. F .add (co (a .0) j) w) (zeros-is j h) ∙ F .add-zero (co (a .0) j))
 
-add-neg : (a : Element) → add a (neg a) ≡ (zeros, zeros-canonical)
-add-neg a = element-path (add a (neg a)) (zeros, zeros-canonical) (λ j h.
-    add-is a (neg a) j h ∙ ap (λ w. F .add (co (a .0) j) w) (minus-is 64 zeros (a .0) (a .1) j h ∙ ap (λ w. F .add w (F .neg (co (a .0) j))) (zeros-is j h) ∙ zero-add F (F .neg (co (a .0) j)))
-    ∙ F .add-neg (co (a .0) j) ∙ sym (zeros-is j h))
+neg-is : (a : Element) (j : ℕ) → j < 64 → co (neg a .0) j ≡ F .neg (co (a .0) j)
+neg-is a j h =
+    minus-is 64 (zeros 64) (a .0) (a .1) j h ∙ ap (λ w. F .add w (F .neg (co (a .0) j))) (zeros-is j h) ∙ zero-add F (F .neg (co (a .0) j))
+
+add-neg : (a : Element) → add a (neg a) ≡ (zeros 64, zeros-canonical)
+add-neg a = element-path (add a (neg a)) (zeros 64, zeros-canonical) (λ j h.
+    add-is a (neg a) j h ∙ ap (λ w. F .add (co (a .0) j) w) (neg-is a j h) ∙ F .add-neg (co (a .0) j) ∙ sym (zeros-is j h))
 
 mul-assoc : (a b c : Element) → mul (mul a b) c ≡ mul a (mul b c)
 mul-assoc a b c = places-path (mul (mul a b) c) (mul a (mul b c)) (λ r h.
@@ -126,7 +127,7 @@ polynomials = record {
   add = add;
   mul = mul;
   neg = neg;
-  𝟘 = (zeros, zeros-canonical);
+  𝟘 = (zeros 64, zeros-canonical);
   𝟙 = (one, one-canonical);
   add-assoc = add-assoc;
   add-comm = add-comm;

@@ -1,12 +1,13 @@
--- Ring elements and their transforms: a sum's, a difference's and a product's. Assumes nothing.
+-- Ring elements and their transforms: a sum's, a difference's and a product's.
 use mathlib.Core.Path.{_≡_, refl, sym, _∙_, ap}
 use mathlib.Core.Bool.{Bool, true, false}
 use mathlib.Core.List.{List}
-use Prim.Native.Nat.{ℕ, _+_, _*_, _-_, _<_}
+use Prim.Native.Nat.{ℕ, _+_, _*_, _-_, _%_, _<_}
 use lib.Dec.{leb}
-use lib.ListN.{getD}
+use lib.ListN.{length, getD, set}
 use Rattle.laws.specs.Rings.{sum, poly}
 use Rattle.laws.specs.Sums.{total}
+use Rattle.laws.proofs.Congruence.{mul-mod-l}
 use Rattle.laws.proofs.Residues.{mk-add, mk-mul, mk-sub, mk-total}
 use Rattle.laws.proofs.Sums.{sum-ext, poly-ext, poly-add, poly-neg}
 use Rattle.laws.proofs.Convolution.{wrap, nega, nega-value}
@@ -15,6 +16,7 @@ use Rattle.ring.specs.Transform.{transform, untransform}
 use Rattle.ring.specs.Elements.{plus, minus, hadamard, shift, product}
 use Rattle.ring.proofs.Residue.{F, el, co, co-tab, p-pos, same, remainders}
 use Rattle.ring.proofs.Roots.{W, place-64}
+use Rattle.ring.proofs.Assigned.{Assigned, assigned-more}
 use Rattle.ring.proofs.Transforms.{transform-canonical, transform-value, untransform-transform}
 
 pub plus-canonical : (n : ℕ) (a b : List ℕ) → Coefficients n (plus n a b)
@@ -67,7 +69,7 @@ product-is a b cb m h =
 -- the transform of a product is the pointwise product of the transforms
 pub transform-product : (a b : List ℕ) → Coefficients 64 a → Coefficients 64 b → transform (product a b) ≡ hadamard (transform a) (transform b)
 transform-product a b ca cb =
-    same 64 (transform (product a b)) (hadamard (transform a) (transform b)) (transform-canonical (product a b)) (hadamard-canonical (transform a) (transform b)) (λ r h.
+    same 64 _ _ (transform-canonical (product a b)) (hadamard-canonical (transform a) (transform b)) (λ r h.
     transform-value (product a b) (product-canonical a b) r h
     ∙ poly-ext F 64 (co (product a b)) (nega F 64 (co a) (co b)) (W (64 + r)) (product-is a b cb)
     ∙ nega-value F 64 (co a) (co b) (W (64 + r)) (place-64 r h)
@@ -80,7 +82,7 @@ product-through a b ca cb =
 
 pub transform-plus : (a b : List ℕ) → Coefficients 64 a → Coefficients 64 b → transform (plus 64 a b) ≡ plus 64 (transform a) (transform b)
 transform-plus a b ca cb =
-    same 64 (transform (plus 64 a b)) (plus 64 (transform a) (transform b)) (transform-canonical (plus 64 a b)) (plus-canonical 64 (transform a) (transform b)) (λ r h.
+    same 64 _ _ (transform-canonical (plus 64 a b)) (plus-canonical 64 (transform a) (transform b)) (λ r h.
     transform-value (plus 64 a b) (plus-canonical 64 a b) r h
     ∙ poly-ext F 64 (co (plus 64 a b)) (λ k. F .add (co a k) (co b k)) (W (64 + r)) (plus-is 64 a b)
     ∙ poly-add F 64 (co a) (co b) (W (64 + r))
@@ -88,9 +90,28 @@ transform-plus a b ca cb =
 
 pub transform-minus : (a b : List ℕ) → Coefficients 64 a → Coefficients 64 b → transform (minus 64 a b) ≡ minus 64 (transform a) (transform b)
 transform-minus a b ca cb =
-    same 64 (transform (minus 64 a b)) (minus 64 (transform a) (transform b)) (transform-canonical (minus 64 a b)) (minus-canonical 64 (transform a) (transform b)) (λ r h.
+    same 64 _ _ (transform-canonical (minus 64 a b)) (minus-canonical 64 (transform a) (transform b)) (λ r h.
     transform-value (minus 64 a b) (minus-canonical 64 a b) r h
     ∙ poly-ext F 64 (co (minus 64 a b)) (λ k. F .add (co a k) (F .neg (co b k))) (W (64 + r)) (minus-is 64 a b cb)
-    ∙ poly-add F 64 (co a) (λ k. F .neg (co b k)) (W (64 + r)) ∙ ap (λ w. F .add (poly F 64 (co a) (W (64 + r))) w) (poly-neg F 64 (co b) (W (64 + r)))
+    ∙ poly-add F 64 (co a) (λ k. F .neg (co b k)) (W (64 + r))
+    ∙ ap (λ w. F .add (poly F 64 (co a) (W (64 + r))) w) (poly-neg F 64 (co b) (W (64 + r)))
     ∙ sym (minus-is 64 (transform a) (transform b) (transform-canonical b) r h
     ∙ (λ i. F .add (transform-value a ca r h i) (F .neg (transform-value b cb r h i)))))
+
+-- ---- what is made of a copy
+-- f of a copy's n numbers is f of the numbers
+pub of-copy : (f : ℕ → List ℕ → List ℕ → List ℕ) {n : ℕ} {a b copy r : List ℕ} → Coefficients n a → copy ≡ a
+    → r ≡ f (length copy) copy b → r ≡ f n a b
+of-copy f {b = b} c e h = h ∙ (λ i. f ((ap length e ∙ c .size) i) (e i) b)
+
+-- the product, step by step
+pub multiplied : {a b s t u v w r : List ℕ} → Coefficients 64 a → Coefficients 64 b → s ≡ a → t ≡ b → u ≡ transform s → v ≡ transform t
+    → w ≡ hadamard u v → r ≡ untransform w → r ≡ product a b
+multiplied {a} {b} ca cb es et eu ev ew er =
+    er ∙ ap untransform (ew ∙ (λ i. hadamard ((eu ∙ ap transform es) i) ((ev ∙ ap transform et) i))) ∙ product-through a b ca cb
+
+-- one more entry, where what multiplies was reduced
+pub multiplied-more : {n i : ℕ} {right old new : List ℕ} → Assigned (λ x y. x * y % P) n i right old new → (z v : ℕ) → i < n
+    → z ≡ getD new i 0 % P → v ≡ z * getD right i 0 % P → Assigned (λ x y. x * y % P) n (i + 1) right old (set new i v)
+multiplied-more {i = i} {right} {new = new} x z v h ez ev =
+    assigned-more x v h (ev ∙ ap (λ n. n * getD right i 0 % P) ez ∙ mul-mod-l P (getD new i 0) (getD right i 0))

@@ -1,4 +1,4 @@
--- `product` is multiplication modulo X^64 + 1 and p: it is what the plain product of two polynomials leaves, and nothing else is. Assumes nothing.
+-- `product` is multiplication modulo X^64 + 1 and p: it is what the plain product of two polynomials leaves, and nothing else is.
 use mathlib.Core.Path.{_≡_, refl, sym, _∙_, ap, subst}
 use mathlib.Core.List.{List}
 use mathlib.Core.Logic.{_≢_, ⊎-elim}
@@ -76,7 +76,8 @@ module _ (a b : List ℕ) (ca : Coefficients 64 a) (cb : Coefficients 64 b) wher
   agrees-congruent : (q r : List ℕ) (m : ℕ) → Agrees q r m → Cong P (convolution a b m) (convolution q modulus m + getD r m 0)
   agrees-congruent q r m e = record {
     same = mk-same P p-pos (convolution a b m) (convolution q modulus m + getD r m 0)
-        (convolution-is a b m ∙ e ∙ sym (mk-add P p-pos (convolution q modulus m) (getD r m 0) ∙ ap (λ w. F .add w (co r m)) (convolution-is q modulus m)));
+        (convolution-is a b m ∙ e
+        ∙ sym (mk-add P p-pos (convolution q modulus m) (getD r m 0) ∙ ap (λ w. F .add w (co r m)) (convolution-is q modulus m)));
   }
 
   congruent-agrees : (q r : List ℕ) (m : ℕ) → Cong P (convolution a b m) (convolution q modulus m + getD r m 0) → Agrees q r m
@@ -108,7 +109,8 @@ module _ (a b : List ℕ) (ca : Coefficients 64 a) (cb : Coefficients 64 b) wher
   pub remainder-only : (r : List ℕ) → Remainder a b r → r ≡ product a b
   remainder-only r x = same 64 r (product a b) (x .canonical) (product-canonical a b) (λ m h.
       add-cancel-left F (c (64 + m)) (co r m) (co (product a b) m)
-      (ap (λ w. F .add w (co r m)) (above m ∙ ap (λ w. F .add (co q m) w) (none (64 + m) (omega arith)) ∙ F .add-zero (co q m) ∙ sym (times-low q m h))
+      (ap (λ w. F .add w (co r m)) (above m ∙ ap (λ w. F .add (co q m) w) (none (64 + m) (omega arith)) ∙ F .add-zero (co q m)
+      ∙ sym (times-low q m h))
       ∙ sym (congruent-agrees q r m (x .congruent m)) ∙ c-low m h))
     where
       q : List ℕ

@@ -1,4 +1,4 @@
--- The numbers below p as the ring F, in which the mathematics of this crate is done, and how lists of numbers stand for its elements. Assumes nothing.
+-- The numbers below p as the ring F, in which the mathematics of this crate is done, and how lists of numbers stand for its elements.
 use mathlib.Core.Path.{_≡_, refl, sym, _∙_, ap, subst}
 use mathlib.Core.List.{List, [], _∷_}
 use Prim.Native.Nat.{ℕ, _+_, _*_, _%_, _<_}

@@ -1,5 +1,5 @@
 -- The 64 places and the numbers of the transform's tree, by computed tests: each is the square of the one below it, each has its inverse, and the
--- sums of the places' powers. Primality of p is not used. Assumes nothing.
+-- sums of the places' powers. Primality of p is not used.
 use mathlib.Core.Path.{_≡_, refl, sym, _∙_, ap}
 use mathlib.Core.Bool.{Bool, true, false}
 use mathlib.Core.Logic.{_≢_}

@@ -1,4 +1,4 @@
--- The transform and its inverse undo each other on 64 canonical numbers. Assumes nothing.
+-- The transform and its inverse undo each other on 64 canonical numbers.
 use mathlib.Core.Path.{_≡_, sym, _∙_, ap}
 use mathlib.Core.List.{List}
 use Prim.Native.Nat.{ℕ, _+_, _*_, _-_, _^_, _%_, _<_}

@@ -1,5 +1,5 @@
 -- The steps of the two transforms as lattice.rs takes them: a stage has m blocks of t + t numbers, a block t butterflies. What they come to is
--- `transform` and `untransform` (proofs/Forward and proofs/Backward). Assumes nothing.
+-- `transform` and `untransform` (proofs/Forward and proofs/Backward).
 use mathlib.Core.Path.{_≡_}
 use mathlib.Core.Bool.{true, false}
 use mathlib.Core.List.{List}

@@ -1,235 +1,33 @@
 // The ring of lattice.rs, polynomials modulo X^64 + 1 and p: both transforms, sums, differences and products of ring elements, and the
 // product of matrices of them. A ring element is 64 canonical numbers, a matrix one flat slice of ring elements, row by row.
+mod tables; // the zetas, and 1/64
+
 use field::BFieldElement;
+use field::SumOfProducts;
 ghost use mathlib.Core.Path.{_≡_};
-ghost use Prim.Native.Nat.{ℕ, _+_, _*_, _%_, _<_, _≤_};
+ghost use Prim.Native.Nat.{ℕ, _+_, _*_, _-_, _%_, _^_, _<_, _≤_};
 ghost use lib.ListN.{length, getD};
 ghost use Rattle.laws.specs.Lists.{tab};
 ghost use Rattle.field.specs.Field.{P, Coefficients};
 ghost use Rattle.field.specs.Element.{Good, num};
+ghost use Rattle.field.specs.Sums.{amount, carries};
 ghost use Rattle.ring.specs.Transform.{transform, untransform, zeta, zeta-inv};
 ghost use Rattle.ring.specs.Elements.{plus, minus, hadamard, product};
 ghost use Rattle.ring.specs.Matrices.{cell, flat, transforms, dot, matrix};
 ghost use Rattle.ring.specs.Stages.{zeta-word, sum-of, difference-of, sum-back, difference-back, Butterflied};
 ghost use Rattle.ring.specs.Stages.{forward, backward, unscaled, scaled};
 
-// psi to the power brv(k), k from 0 to 63, and the inverses. Entry 0 is never read.
-const POWERS_OF_PSI_BITREVERSED: [u64; 64] = [
-    1,
-    281474976710656,
-    16777216,
-    1099511627520,
-    4096,
-    1152921504606846976,
-    68719476736,
-    4503599626321920,
-    64,
-    18014398509481984,
-    1073741824,
-    70368744161280,
-    262144,
-    17179869180,
-    4398046511104,
-    288230376084602880,
-    8,
-    2251799813685248,
-    134217728,
-    8796093020160,
-    32768,
-    9223372036854775808,
-    549755813888,
-    36028797010575360,
-    512,
-    144115188075855872,
-    8589934592,
-    562949953290240,
-    2097152,
-    137438953440,
-    35184372088832,
-    2305843008676823040,
-    2198989700608,
-    18446741870357774849,
-    18446181119461163007,
-    18446181119461163011,
-    9007061813690368,
-    18437736732722987009,
-    16140901060200882177,
-    16140901060200898561,
-    140735340838912,
-    18446603329778778113,
-    18410715272395620225,
-    18410715272395620481,
-    576451956076183552,
-    17870274521152356353,
-    18446744035054321673,
-    18446744035055370249,
-    17591917604864,
-    18446726476960108545,
-    18442240469787213809,
-    18442240469787213841,
-    72056494509522944,
-    18374685375881805825,
-    18446744065119551490,
-    18446744065119682562,
-    1125882726711296,
-    18445618152328134657,
-    18158513693262871553,
-    18158513693262873601,
-    4611615648609468416,
-    13834987683316760577,
-    18446743794532483137,
-    18446743794540871745,
-];
-
-const POWERS_OF_PSI_INV_BITREVERSED: [u64; 64] = [
-    1,
-    18446462594437873665,
-    18446742969902956801,
-    18446744069397807105,
-    18442240469788262401,
-    18446744000695107585,
-    17293822564807737345,
-    18446744069414580225,
-    18158513693329981441,
-    18446739671368073217,
-    18446744052234715141,
-    18446744069414322177,
-    18446673700670423041,
-    18446744068340842497,
-    18428729670905102337,
-    18446744069414584257,
-    16140901060737761281,
-    18446708885042495489,
-    18446743931975630881,
-    18446744069412487169,
-    18446181119461294081,
-    18446744060824649729,
-    18302628881338728449,
-    18446744069414583809,
-    18410715272404008961,
-    18446743519658770433,
-    9223372032559808513,
-    18446744069414551553,
-    18446735273321564161,
-    18446744069280366593,
-    18444492269600899073,
-    18446744069414584313,
-    274873712576,
-    274882101184,
-    4611756386097823744,
-    13835128420805115905,
-    288230376151710720,
-    288230376151712768,
-    1125917086449664,
-    18445618186687873025,
-    4294901759,
-    4295032831,
-    72058693532778496,
-    18374687574905061377,
-    4503599627370480,
-    4503599627370512,
-    17592454475776,
-    18446726477496979457,
-    34359214072,
-    34360262648,
-    576469548262227968,
-    17870292113338400769,
-    36028797018963840,
-    36028797018964096,
-    140739635806208,
-    18446603334073745409,
-    2305843009213685760,
-    2305843009213702144,
-    9007336691597312,
-    18437737007600893953,
-    562949953421310,
-    562949953421314,
-    2199056809472,
-    18446741870424883713,
-];
-
-// The words of the first table, which the forward transforms read: no block then has to make its element.
-const ZETA_WORDS: [u64; 64] = [
-    4294967295,
-    18446744069414518785,
-    72057594021150720,
-    18446742969902956545,
-    17592186040320,
-    18446744069146148865,
-    18446744069414584305,
-    18442240469787213825,
-    274877906880,
-    18446744069410390017,
-    4611686017353646080,
-    18446673700670406657,
-    1125899906580480,
-    18446744052234715137,
-    18446744069414583297,
-    18158513693262872577,
-    34359738360,
-    18446744069414060033,
-    576460752169205760,
-    18446735273321562113,
-    140737488322560,
-    18446744067267100673,
-    18446744069414584193,
-    18410715272395620353,
-    2199023255040,
-    18446744069381029889,
-    18446744069414584319,
-    18446181119461163009,
-    9007199252643840,
-    18446743931975630849,
-    18446744069414576129,
-    16140901060200890369,
-    18302626682349027329,
-    18302631080395538433,
-    18446744060824780803,
-    8590065662,
-    18437736870159843361,
-    9007199254741024,
-    18446708885579374593,
-    35184908951552,
-    9223231297218936833,
-    9223512772195647489,
-    18446743519667159169,
-    549764202368,
-    17870283317111162881,
-    576460752303425536,
-    18444492303961161729,
-    2251834172899328,
-    17293804972890128385,
-    17293840157262217217,
-    18446744000696156177,
-    68720525296,
-    18374686475376656641,
-    72057594037928192,
-    18446462598732906497,
-    281479271612416,
-    18445618169507741701,
-    1125899906842628,
-    18446739671435183105,
-    4398113618944,
-    13835058050987212801,
-    4611686018427404288,
-    18428729945787203585,
-    18014673383194624,
-];
-
-// 1/64
-const N_INV: u64 = 18158513693329981441;
-
 // The first table with its rule, as document 01 asks for it; the transforms read its words.
 pub fn powers_of_psi_bitreversed() -> [u64; 64]
     ensures { λ r. ⌜ r ≡ tab 64 zeta ⌝ }
 {
-    POWERS_OF_PSI_BITREVERSED
+    tables::POWERS_OF_PSI_BITREVERSED
 }
 
 fn zeta_words() -> [u64; 64]
     ensures { λ r. ⌜ r ≡ tab 64 zeta-word ⌝ }
 {
-    ZETA_WORDS
+    tables::ZETA_WORDS
 }
 
 // One block of the forward transform.
@@ -343,12 +141,12 @@ pub fn coset_intt_noswap_64(array: &mut [u64])
     requires { ⌜ Coefficients 64 (now array) ⌝ }
     ensures { λ r. ⌜ now (array .exit) ≡ untransform (now (array .entry)) ⌝ }
 {
-    let zetas = POWERS_OF_PSI_INV_BITREVERSED;
+    let zetas = tables::POWERS_OF_PSI_INV_BITREVERSED;
     unstages(array, &zetas);
-    scale(array, BFieldElement::new(N_INV));
+    scale(array, BFieldElement::new(tables::N_INV));
 }
 
-pub fn copy(from: &[u64], to: &mut [u64])
+fn copy(from: &[u64], to: &mut [u64])
     requires { ⌜ length (now from) ≡ length (now to) ⌝ }
     ensures { λ r. ⌜ now (to .exit) ≡ now (from .entry) ⌝ }
 {
@@ -367,7 +165,7 @@ pub fn add_assign(lhs: &mut [u64], rhs: &[u64])
     }
 }
 
-pub fn sub_assign(lhs: &mut [u64], rhs: &[u64])
+fn sub_assign(lhs: &mut [u64], rhs: &[u64])
     requires { ⌜ Coefficients (length (now lhs)) (now lhs) × Coefficients (length (now lhs)) (now rhs) ⌝ }
     ensures { λ r. ⌜ now (lhs .exit) ≡ minus (length (now (lhs .entry))) (now (lhs .entry)) (now (rhs .entry)) ⌝ }
 {
@@ -376,7 +174,7 @@ pub fn sub_assign(lhs: &mut [u64], rhs: &[u64])
     }
 }
 
-pub fn hadamard_assign(lhs: &mut [u64], rhs: &[u64])
+fn hadamard_assign(lhs: &mut [u64], rhs: &[u64])
     requires { ⌜ Coefficients 64 (now lhs) × Coefficients 64 (now rhs) ⌝ }
     ensures { λ r. ⌜ now (lhs .exit) ≡ hadamard (now (lhs .entry)) (now (rhs .entry)) ⌝ }
 {
@@ -423,6 +221,14 @@ pub fn hadamard(lhs: &[u64], rhs: &[u64], out: &mut [u64])
     hadamard_assign(out, rhs);
 }
 
+// The sum with one product more: place p of a vector times place q of a matrix.
+fn plus_place(s: SumOfProducts, vector: &[u64], p: usize, matrix: &[u64], q: usize) -> SumOfProducts
+    requires { ⌜ (carries s < 2 ^ 64 - 1) × (p < length (now vector)) × (q < length (now matrix)) ⌝ }
+    ensures { λ r. ⌜ (amount r ≡ amount s + getD (now (vector .entry)) p 0 * getD (now (matrix .entry)) q 0) × (carries r ≤ carries s + 1) ⌝ }
+{
+    field::plus_product(s, vector[p], matrix[q])
+}
+
 // Place k of four elements times the coefficients of a matrix that stand at at, at + step, at + 2 step and at + 3 step, added
 // up: the four products are reduced once.
 fn combined(vector: &[u64], k: usize, matrix: &[u64], at: usize, step: usize) -> u64
@@ -433,9 +239,9 @@ fn combined(vector: &[u64], k: usize, matrix: &[u64], at: usize, step: usize) ->
         + getD (now (vector .entry)) (192 + k) 0 * getD (now (matrix .entry)) (at + 3 * step) 0) % P ⌝ }
 {
     let a = field::first_product(vector[k], matrix[at]);
-    let b = field::plus_product(a, vector[64 + k], matrix[at + step]);
-    let c = field::plus_product(b, vector[128 + k], matrix[at + 2 * step]);
-    let d = field::plus_product(c, vector[192 + k], matrix[at + 3 * step]);
+    let b = plus_place(a, vector, 64 + k, matrix, at + step);
+    let c = plus_place(b, vector, 128 + k, matrix, at + 2 * step);
+    let d = plus_place(c, vector, 192 + k, matrix, at + 3 * step);
     field::sum_mod_p(d)
 }
 

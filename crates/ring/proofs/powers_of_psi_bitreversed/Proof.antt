@@ -1,4 +1,4 @@
--- `powers_of_psi_bitreversed` holds its rule: one computed test of the 64 entries. Assumes nothing.
+-- `powers_of_psi_bitreversed` holds its rule: one computed test of the 64 entries.
 use mathlib.Core.Path.{refl}
 use Rattle.laws.specs.Lists.{tab, tabFrom}
 use Rattle.ring.specs.Transform.{brv, zeta}

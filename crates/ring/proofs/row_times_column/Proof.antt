@@ -1,15 +1,9 @@
--- `row_times_column` is the matrix product of its shape. Assumes nothing.
-use mathlib.Core.Path.{sym, _∙_}
+-- `row_times_column` is the matrix product of its shape.
 use borrow.Author.Needs.{needs}
 use Rattle.ring.proofs.Matrices.{matrix-row-flat}
 use Rattle.ring.proofs.row_times_column.Statement.{statement}
 use Rattle.ring.proofs.row_times_column.Tie as tie
 
-returns : tie.Need-returns
-returns c =
-    let d = c .before .before in
-    let s = d .before .before .before .before .before in
-    d .vector-times .ensures ∙ sym (matrix-row-flat 4 1 (s .args .lhs .now) (s .args .rhs .now))
-
 pub row-times-column-spec : {M : Type 1} → statement M
-row-times-column-spec = tie.close (tie.spec (λ c κs. search needs) (λ c. search needs) returns)
+row-times-column-spec =
+    tie.close (tie.spec (λ c κs. search needs) (λ c. search needs) (λ c. search (needs, matrix-row-flat)))

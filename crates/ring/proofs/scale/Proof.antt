@@ -1,4 +1,4 @@
--- `scale` multiplies each of 64 numbers. Assumes nothing.
+-- `scale` multiplies each of 64 numbers.
 use borrow.Author.Needs.{needs}
 use native.Mathlib.Omega.{arith}
 use Prim.Native.Nat.{_*_, _-_, _≤_, _%_}

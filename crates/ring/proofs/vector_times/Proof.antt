@@ -1,28 +1,22 @@
--- `vector_times` makes its result element after element, place after place. Assumes nothing.
+-- `vector_times` makes its result element after element, place after place.
 use borrow.Author.Needs.{needs}
 use native.Mathlib.Omega.{arith}
 use Prim.Native.Nat.{ℕ, _+_, _*_, _-_, _≤_}
 use mathlib.Core.Path.{_≡_, refl, sym, _∙_}
-use mathlib.Core.List.{List}
 use lib.ListN.{length}
-use Rattle.ring.specs.Matrices.{cell, dot}
 use Rattle.ring.proofs.Cells.{Flattened, flattened-none, flattened-at, flattened-more, flattened-all}
-use Rattle.ring.proofs.Dots.{dot-four, element-fits}
+use Rattle.ring.proofs.Dots.{times, dot-four, element-fits}
 use Rattle.ring.proofs.vector_times.Statement.{statement}
 use Rattle.ring.proofs.vector_times.Tie as tie
 
--- element e of the result
-abbrev element : List ℕ → List ℕ → ℕ → ℕ → ℕ → List ℕ
-element vector matrix row step e = dot 4 (cell vector) (λ q. cell matrix (e * row + q * step))
-
 abbrev Inv-places : tie.InvT-places
-Inv-places vector matrix out₀ count row step e k₀ out k = (k ≤ 64) × Flattened (element vector matrix row step) count (e * 64 + k) out
+Inv-places vector matrix out₀ count row step e k₀ out k = (k ≤ 64) × Flattened (times vector matrix row step) count (e * 64 + k) out
 
 abbrev μ-places : tie.MeasureT-places
 μ-places vector matrix out₀ count row step e k₀ out k = 64 - k
 
 abbrev Inv-elements : tie.InvT-elements
-Inv-elements vector matrix out₀ count row step e₀ out e = (e ≤ count) × Flattened (element vector matrix row step) count (e * 64) out
+Inv-elements vector matrix out₀ count row step e₀ out e = (e ≤ count) × Flattened (times vector matrix row step) count (e * 64) out
 
 abbrev μ-elements : tie.MeasureT-elements
 μ-elements vector matrix out₀ count row step e₀ out e = count - e
@@ -44,18 +38,6 @@ places-holds c =
     let n : l .e * 64 ≡ l .e * 64 + 0 = omega arith in
     (omega arith, flattened-at n (l .inv .1))
 
-mul-combined : tie.Need-mul-combined Inv-places μ-places Inv-elements μ-elements
-mul-combined c = omega (arith, room c)
-
-mul-combined-2 : tie.Need-mul-combined-2 Inv-places μ-places Inv-elements μ-elements
-mul-combined-2 c = omega (arith, room c)
-
-add-combined : tie.Need-add-combined Inv-places μ-places Inv-elements μ-elements
-add-combined c = omega (arith, room c)
-
-mul-combined-3 : tie.Need-mul-combined-3 Inv-places μ-places Inv-elements μ-elements
-mul-combined-3 c = omega (arith, room c)
-
 combined-requires : tie.Need-combined-requires Inv-places μ-places Inv-elements μ-elements
 combined-requires c κs = (omega arith, omega (arith, room c))
 
@@ -64,15 +46,13 @@ slice-write-out c = omega (arith, c .before .before .places .inv .1 .size)
 
 places-again : tie.Need-places-again Inv-places μ-places Inv-elements μ-elements
 places-again c =
-    let l = c .before .before in
-    let a = l .before .before .before .before .before .before .args in
-    let e = l .before .before .elements .e in
-    let k = l .places .k in (
-      omega arith,
-      flattened-more e k (c .combined .result) (omega arith) (omega arith)
-          (dot-four (a .vector .now) (a .matrix .now) e (a .row) (a .step) k _ (omega arith) refl _ (c .combined .ensures))
-          (l .places .inv .1),
-    )
+    let places = c .before .before in
+    let elements = places .before .before in
+    let a = elements .before .before .before .before .args in
+    let e = elements .elements .e in
+    let k = places .places .k in
+    let stored = dot-four (a .vector .now) (a .matrix .now) e (a .row) (a .step) k _ (omega arith) refl _ (c .combined .ensures) in
+    (omega arith, flattened-more e k (c .combined .result) (omega arith) (omega arith) stored (places .places .inv .1))
 
 elements-again : tie.Need-elements-again Inv-places μ-places Inv-elements μ-elements
 elements-again c =
@@ -82,15 +62,15 @@ elements-again c =
 
 same-length : tie.Need-same-length Inv-places μ-places Inv-elements μ-elements
 same-length c =
-    let entered = c .before .before .before .before .before in
-    c .before .elements .inv .1 .size ∙ sym (entered .pre .0 .1)
+    let elements = c .before in
+    elements .elements .inv .1 .size ∙ sym (elements .before .before .before .before .pre .0 .1)
 
 returns : tie.Need-returns Inv-places μ-places Inv-elements μ-elements
 returns c = flattened-all (c .before .elements .e) (omega arith) (c .before .elements .inv .1)
 
 pub vector-times-spec : {M : Type 1} → statement M
 vector-times-spec =
-    tie.close (tie.spec Inv-places μ-places Inv-elements μ-elements elements-holds places-holds mul-combined
-    mul-combined-2 add-combined mul-combined-3 combined-requires (λ c. search needs) (λ c. search needs)
-    (λ c. search needs) slice-write-out (λ c. search needs) (λ c. search needs) places-again (λ c. search needs)
-    (λ c. search needs) elements-again same-length returns)
+    tie.close (tie.spec Inv-places μ-places Inv-elements μ-elements elements-holds places-holds (λ c. omega (arith, room c))
+    (λ c. omega (arith, room c)) (λ c. omega (arith, room c)) (λ c. omega (arith, room c)) combined-requires (λ c. search needs)
+    (λ c. search needs) (λ c. search needs) slice-write-out (λ c. search needs) (λ c. search needs) places-again
+    (λ c. search needs) (λ c. search needs) elements-again same-length returns)

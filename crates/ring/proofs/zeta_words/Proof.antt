@@ -1,4 +1,4 @@
--- `zeta_words` holds the words of the zetas: one computed test of the 64 entries. Assumes nothing.
+-- `zeta_words` holds the words of the zetas: one computed test of the 64 entries.
 use mathlib.Core.Path.{refl}
 use Rattle.laws.specs.Lists.{tab, tabFrom}
 use Rattle.ring.specs.Transform.{brv, zeta}

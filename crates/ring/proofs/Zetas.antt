@@ -1,4 +1,4 @@
--- The entries of the zeta tables. Assumes nothing.
+-- The entries of the zeta tables.
 use mathlib.Core.Path.{_≡_, refl, ap, _∙_}
 use mathlib.Core.List.{List}
 use Prim.Native.Nat.{ℕ, _*_, _-_, _%_, _^_, _<_}
@@ -27,6 +27,9 @@ entry-is f k h e = ap (λ (l : List ℕ). getD l k 0) e ∙ getD-tab 64 f 0 k h
 pub zeta-word-lt : (k : ℕ) → zeta-word k < P
 unfolding zeta-word
 zeta-word-lt k = word-lt (zeta k)
+
+pub words-below : {l : List ℕ} → l ≡ tab 64 zeta-word → (k : ℕ) → k < 64 → getD l k 0 < P
+words-below e k h = rw (entry-is zeta-word k h e) (zeta-word-lt k)
 
 pub zeta-word-number : (k : ℕ) → reduced (zeta-word k) ≡ zeta k % P
 unfolding zeta-word
