@@ -1,5 +1,5 @@
 -- Elements and the numbers they stand for: what each operation on Montgomery words does to the number, and that a number determines its
--- word. Assumes nothing.
+-- word.
 use mathlib.Core.Path.{_≡_, refl, sym, ap, _∙_}
 use mathlib.Core.List.{List, [], _∷_}
 use Prim.Native.Nat.{ℕ, _+_, _*_, _-_, _%_, _^_, _≤_, _<_}

@@ -1,5 +1,5 @@
 -- Fermat's theorem for p: x ^ (p - 1) is 1 modulo p for every x from 1 to p - 1, since 7 generates them all. So x ^ (p - 2) is the inverse
--- of x, and there is no other. Assumes nothing.
+-- of x, and there is no other.
 use mathlib.Core.Path.{_≡_, refl, sym, ap, _∙_}
 use mathlib.Core.List.{List, [], _∷_}
 use Prim.Native.Nat.{ℕ, _*_, _-_, _%_, _^_, _<_}

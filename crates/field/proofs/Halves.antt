@@ -1,4 +1,4 @@
--- The halves of a product of two numbers of two digits each, in any base B, and that in base 2^32 no step is too large. Assumes nothing.
+-- The halves of a product of two numbers of two digits each, in any base B, and that in base 2^32 no step is too large.
 use mathlib.Core.Path.{_≡_, sym, ap, _∙_}
 use Prim.Native.Nat.{ℕ, _+_, _*_, _/_, _%_, _^_, _≤_, _<_}
 use native.Mathlib.Nat.{mul-le-mul, div-add-mod', mod-lt, add-zero, add-mul-mod-self-right, mul-add-div-right, div-eq-of-lt}

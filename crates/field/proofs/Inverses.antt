@@ -1,16 +1,17 @@
--- `inverse` gives the inverse: what it answers, times the number, is 1 modulo p; it has no answer for 0 alone. Assumes nothing.
+-- `inverse` gives the inverse: what it answers, times the number, is 1 modulo p; it has no answer for 0 alone.
 use mathlib.Core.Path.{_≡_, refl, sym, ap, _∙_}
-use mathlib.Core.Bool.{Bool, true, false}
+use mathlib.Core.Bool.{Bool}
 use Prim.Native.Nat.{ℕ, _*_, _-_, _%_, _^_, _<_}
 use native.Mathlib.Nat.{ne-of-gt, eq-zero-or-pos}
 use mathlib.Core.Logic.{_⊎_, inl, inr}
 use borrow.Author.Tests.{ne-eqb}
 use lib.Dec.{eqb}
+use Rattle.laws.specs.Choices.{pick}
 use Rattle.field.specs.declared.BFieldElement.{BFieldElement}
 use Rattle.field.specs.declared.Inverted.{Inverted}
 use Rattle.field.specs.declared.Inverted.the-variants.{Inverse, OfZero}
 use Rattle.field.specs.Field.{P, R2, reduced}
-use Rattle.field.specs.Element.{Good, num, Stands, word, element, choose, inverted}
+use Rattle.field.specs.Element.{Good, num, Stands, word, element, inverted}
 use Rattle.field.proofs.Elements.{element-stands, stands-element}
 use Rattle.field.proofs.Fermat.{inverse-is}
 
@@ -20,7 +21,7 @@ inverted-zero = refl
 
 pub inverted-other : (x : ℕ) → 0 < x → inverted x ≡ Inverse (element (x ^ (P - 2)))
 unfolding inverted
-inverted-other x l = ap (λ (b : Bool). choose b OfZero (Inverse (element (x ^ (P - 2))))) (ne-eqb x 0 (λ e. ne-of-gt l e))
+inverted-other x l = ap (λ (b : Bool). pick b OfZero (Inverse (element (x ^ (P - 2))))) (ne-eqb x 0 (λ e. ne-of-gt l e))
 
 -- for every x from 1 to p - 1 there is an answer e, and e times x is 1
 pub inverse-right : (x : ℕ) → 0 < x → x < P → (e : BFieldElement) × (inverted x ≡ Inverse e) × ((num e * x) % P ≡ 1)

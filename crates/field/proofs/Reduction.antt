@@ -1,5 +1,5 @@
 -- Montgomery's reduction on plain numbers: xl is the low half, a its sum with its own shift, e that sum's carry, b what is taken from the
--- high half xh. Assumes nothing.
+-- high half xh.
 use mathlib.Core.Path.{_≡_, refl, sym, ap, _∙_, subst}
 use mathlib.Core.List.{List, [], _∷_}
 use Prim.Native.Nat.{ℕ, zero, suc, _+_, _*_, _-_, _/_, _%_, _^_, _≤_, _<_}

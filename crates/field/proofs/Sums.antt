@@ -1,4 +1,4 @@
--- Sums of products in three words, on plain numbers: one product more, and the reduction. Assumes nothing.
+-- Sums of products in three words, on plain numbers: one product more, and the reduction.
 use mathlib.Core.Path.{_≡_, refl, sym, ap, _∙_}
 use mathlib.Core.List.{[], _∷_}
 use Prim.Native.Nat.{ℕ, _+_, _*_, _-_, _/_, _%_, _^_, _≤_, _<_}

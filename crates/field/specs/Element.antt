@@ -1,9 +1,9 @@
 -- What a field element stands for. Its Montgomery word is seen by this file alone: everything else speaks of numbers below p.
--- Document 01, "Field". Assumes nothing.
+-- Document 01, "Field".
 use mathlib.Core.Path.{_≡_}
-use mathlib.Core.Bool.{Bool, true, false}
 use Prim.Native.Nat.{ℕ, _*_, _-_, _%_, _^_, _<_}
 use lib.Dec.{eqb}
+use Rattle.laws.specs.Choices.{pick}
 use Rattle.field.specs.declared.BFieldElement.{BFieldElement}
 use Rattle.field.specs.declared.Inverted.{Inverted}
 use Rattle.field.specs.declared.Inverted.the-variants.{Inverse, OfZero}
@@ -30,10 +30,6 @@ unfoldable pub element : ℕ → BFieldElement
 element v = record { 0 = word v }
 
 -- ---- the inverse
-abbrev pub choose : Bool → Inverted → Inverted → Inverted
-choose true a b = a
-choose false a b = b
-
 -- 0 has none; that of any other number x is x ^ (p - 2) (`inverse-right` of proofs/Inverses: it times x is 1)
 unfoldable pub inverted : ℕ → Inverted
-inverted x = choose (eqb x 0) OfZero (Inverse (element (x ^ (P - 2))))
+inverted x = pick (eqb x 0) OfZero (Inverse (element (x ^ (P - 2))))

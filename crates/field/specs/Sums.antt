@@ -1,4 +1,4 @@
--- What a sum of products of plain numbers stands for, held in three words of 64 bits. Assumes nothing.
+-- What a sum of products of plain numbers stands for, held in three words of 64 bits.
 use Prim.Native.Nat.{ℕ}
 use Rattle.field.specs.declared.SumOfProducts.{SumOfProducts}
 use Rattle.field.specs.Field.{wide}

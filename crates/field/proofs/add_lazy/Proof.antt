@@ -1,9 +1,8 @@
--- `add_lazy` adds modulo p: exactly, or p is taken off once by what 2^64 leaves. Assumes nothing.
+-- `add_lazy` adds modulo p: exactly, or p is taken off once by what 2^64 leaves.
 use borrow.Author.Needs.{needs}
 use native.Mathlib.Omega.{arith}
-use mathlib.Core.Path.{_≡_, ap}
-use Prim.Native.Nat.{ℕ, _+_, _%_}
-use Rattle.field.specs.Field.{P}
+use mathlib.Core.Path.{_≡_}
+use Prim.Native.Nat.{_+_}
 use Rattle.field.proofs.Sums.{by-p}
 use Rattle.field.proofs.add_lazy.Statement.{statement}
 use Rattle.field.proofs.add_lazy.Tie as tie
@@ -15,7 +14,7 @@ returns-2 : tie.Need-returns-2
 returns-2 c =
     let n = c .before .before .args in
     let e : c .before .wrapping-add-u64 .result ≡ n .a + n .b = omega arith in
-    ap (λ (k : ℕ). k % P) e
+    rw e
 
 pub add-lazy-spec : {M : Type 1} → statement M
 add-lazy-spec = tie.close (tie.spec (λ c κs. search needs) (λ c κs. search needs) returns returns-2)

@@ -1,4 +1,4 @@
--- `first_product` holds the product in its two lower words. Assumes nothing.
+-- `first_product` holds the product in its two lower words.
 use borrow.Author.Needs.{needs}
 use mathlib.Core.Path.{refl, ap, _∙_}
 use Prim.Native.Nat.{ℕ}

@@ -1,4 +1,4 @@
--- `high_product` gives the high half: the columns in base 2^32. Assumes nothing.
+-- `high_product` gives the high half: the columns in base 2^32.
 use native.Mathlib.Omega.{arith}
 use lib.Dec.{lit<}
 use Prim.Native.Nat.{_/_, _%_, _^_}

@@ -1,4 +1,4 @@
--- `low_product` gives the low half: what wraps is a multiple of 2^64. Assumes nothing.
+-- `low_product` gives the low half: what wraps is a multiple of 2^64.
 use borrow.Author.Needs.{needs}
 use native.Mathlib.Omega.{arith}
 use mathlib.Core.Path.{ap, _∙_}

@@ -1,4 +1,4 @@
--- `plus_product` adds a product: each comparison gives the carry that its wrapping sum lost. Assumes nothing.
+-- `plus_product` adds a product: each comparison gives the carry that its wrapping sum lost.
 use borrow.Author.Needs.{needs}
 use native.Mathlib.Omega.{arith}
 use Prim.Native.Nat.{ℕ, _+_, _<_, _^_}
@@ -17,17 +17,21 @@ room c =
     let x = c .product .result in
     high-room 0xffff_ffff_ffff_ffff (x .hi) (x .lo) (n .a) (n .b) (lit< tt) (c .product .ensures) (omega arith) (omega arith)
 
+-- the product, where the lower sum is compared
+abbrev made : tie.After-row-known → tie.After-product
+made c = c .before .before .before .before .before
+
 low-carry : (c : tie.After-row-known) → let w = c .before .before .before .before in
-    Carried (w .before .product .result .lo) (w .wrapping-add-u64 .result) (c .before .before .if1 .c)
+    Carried (made c .product .result .lo) (w .wrapping-add-u64 .result) (c .before .before .if1 .c)
 low-carry c = ⊎-elim (λ w. inl (w .0 .taken, w .1)) (λ w. inr (w .0 .left, w .1)) (c .before .before .if1 .came)
 
 high-carry : (c : tie.After-row-known2) → let w = c .before .before .before in let k = w .before in
-    Carried (k .before .before .before .before .before .product .result .hi + k .before .before .if1 .c) (w .wrapping-add-u642 .result)
+    Carried (made k .product .result .hi + k .before .before .if1 .c) (w .wrapping-add-u642 .result)
     (c .before .before .if2 .d)
 high-carry c = ⊎-elim (λ w. inl (w .0 .taken, w .1)) (λ w. inr (w .0 .left, w .1)) (c .before .before .if2 .came)
 
 add-h : tie.Need-add-h
-add-h c = omega (arith, room (c .before .before .before .before .before), carry-small (low-carry c))
+add-h c = omega (arith, room (made c), carry-small (low-carry c))
 
 add-top : tie.Need-add-t13
 unfolding carries
@@ -39,10 +43,10 @@ returns c =
     let v = c .before .before .before in
     let k = v .before in
     let w = k .before .before .before .before in
-    let x = w .before .product in
-    let s = w .before .before .args .s in
+    let x = made k .product in
+    let s = made k .before .args .s in
     let h = x .result .hi + k .before .before .if1 .c in
-    let fits : h < 2 ^ 64 = omega (arith, room (w .before), carry-small (low-carry k)) in (
+    let fits : h < 2 ^ 64 = omega (arith, room (made k), carry-small (low-carry k)) in (
       one-more (2 ^ 64) (s .top) (s .hi) (s .lo) (x .result .hi) (x .result .lo) _ _ _ _
           (carried (2 ^ 64) (x .result .lo) (s .lo) _ _ (search needs) (search needs) (w .wrapping-add-u64 .ensures) (low-carry k))
           (carried (2 ^ 64) h (s .hi) _ _ fits (search needs) (v .wrapping-add-u642 .ensures) (high-carry c))

@@ -1,4 +1,4 @@
--- `product` puts the halves together. Assumes nothing.
+-- `product` puts the halves together.
 use borrow.Author.Needs.{needs}
 use Prim.Native.Nat.{_+_, _*_, _^_}
 use mathlib.Core.Path.{_∙_}

@@ -1,4 +1,4 @@
--- `reduced_product` meets its contract: the high half of the product is below p, as its first factor is. Assumes nothing.
+-- `reduced_product` meets its contract: the high half of the product is below p, as its first factor is.
 use borrow.Author.Needs.{needs}
 use Prim.Native.Nat.{_^_}
 use mathlib.Core.Path.{ap, _∙_}

@@ -1,4 +1,4 @@
--- `sub_mod_p` gives the canonical difference of a canonical number. Assumes nothing.
+-- `sub_mod_p` gives the canonical difference of a canonical number.
 use borrow.Author.Needs.{needs}
 use mathlib.Core.Path.{sym, _∙_}
 use native.Mathlib.Nat.{mod-eq-of-lt}

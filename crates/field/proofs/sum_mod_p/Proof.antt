@@ -1,4 +1,4 @@
--- `sum_mod_p` reduces a sum of products: what stands at 2^64 goes up, what stands at 2^96 and 2^128 down. Assumes nothing.
+-- `sum_mod_p` reduces a sum of products: what stands at 2^64 goes up, what stands at 2^96 and 2^128 down.
 use borrow.Author.Needs.{needs}
 use native.Mathlib.Omega.{arith}
 use mathlib.Core.Path.{_∙_}
@@ -24,9 +24,7 @@ unfolding amount carries
 returns c =
     let x = c .before .before .sub-lazy in
     let y = c .before .add-lazy in
-    let s = c .before .before .before .before .before .before .args .s in
-    let e = folded (s .lo) (s .hi) (s .top) (x .result) (y .result) (omega arith) (x .ensures .0) (y .ensures) in
-    (c .canonical .ensures .0 ∙ e, c .canonical .ensures .1)
+    (c .canonical .ensures .0 ∙ folded _ _ _ (x .result) (y .result) (omega arith) (x .ensures .0) (y .ensures), c .canonical .ensures .1)
 
 pub sum-mod-p-spec : {M : Type 1} → statement M
 sum-mod-p-spec =

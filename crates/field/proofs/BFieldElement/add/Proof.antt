@@ -1,4 +1,4 @@
--- `add` adds the numbers. Assumes nothing.
+-- `add` adds the numbers.
 use mathlib.Core.Path.{ap, _∙_}
 use Rattle.field.specs.Field.{reduced}
 use Rattle.field.specs.Element.{Good, num}

@@ -1,4 +1,4 @@
--- `append` squares n times and multiplies. Assumes nothing.
+-- `append` squares n times and multiplies.
 use borrow.Author.Needs.{needs}
 use Prim.Native.Nat.{ℕ, _*_, _%_, _^_}
 use mathlib.Core.Path.{ap, _∙_}

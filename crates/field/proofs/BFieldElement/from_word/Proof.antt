@@ -1,4 +1,4 @@
--- `from_word` makes the element that a word stands for. Assumes nothing.
+-- `from_word` makes the element that a word stands for.
 use mathlib.Core.Path.{refl}
 use Rattle.field.specs.Element.{Good, num}
 use Rattle.field.proofs.BFieldElement.from_word.Statement.{statement}

@@ -1,4 +1,4 @@
--- `inverse` answers as `inverted` says. Assumes nothing.
+-- `inverse` answers as `inverted` says.
 use borrow.Author.Needs.{needs}
 use Prim.Native.Nat.{_-_, _%_, _^_}
 use mathlib.Core.Path.{sym, ap, _∙_}
@@ -18,7 +18,8 @@ returns-2 : tie.Need-returns-2
 returns-2 c =
     let self = c .before .before .args .self in
     let power = num self ^ (P - 2) in
-    ap (λ (e : BFieldElement). Inverse e) (same-element (c .to-p-minus-2 .result) (element power) (power % P) (c .to-p-minus-2 .ensures) (element-stands power))
+    let found = same-element (c .to-p-minus-2 .result) (element power) (power % P) (c .to-p-minus-2 .ensures) (element-stands power) in
+    ap (λ (e : BFieldElement). Inverse e) found
     ∙ sym (inverted-other (num self) (word-other self (c .before .before .pre) (c .before .if1 .left)))
 
 pub inverse-spec : {M : Type 1} → statement M

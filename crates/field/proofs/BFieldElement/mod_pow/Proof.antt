@@ -1,4 +1,4 @@
--- `mod_pow` gives the power. The loop's invariant: acc stands for the power to the exponent's digits from the place `digits` on. Assumes nothing.
+-- `mod_pow` gives the power. The loop's invariant: acc stands for the power to the exponent's digits from the place `digits` on.
 use borrow.Author.Needs.{needs}
 use native.Mathlib.Omega.{arith}
 use native.Mathlib.Nat.{mod-lt, div-one, pow-zero}
@@ -85,5 +85,5 @@ pub mod-pow-spec : {M : Type 1} → statement M
 mod-pow-spec =
     tie.close (tie.spec Inv-loop μ-loop (λ c κs. tt) (λ c. leading-le 64 (c .before .args .exp)) loop-holds
     (λ c. omega arith) (λ c κs. (c .before .loop .inv .1 .good, c .before .loop .inv .1 .good)) (λ c. omega arith)
-    (λ c. omega arith) (λ c κs. (c .before .mul .ensures .good, c .before .before .before .before .before .pre))
+    (λ c. omega arith) (λ c κs. search needs)
     (λ c. omega arith) loop-again (λ c. omega arith) loop-again-2 returns)

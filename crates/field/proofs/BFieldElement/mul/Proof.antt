@@ -1,4 +1,4 @@
--- `mul` multiplies the numbers. Assumes nothing.
+-- `mul` multiplies the numbers.
 use mathlib.Core.Path.{ap, _∙_}
 use Rattle.field.specs.Field.{reduced}
 use Rattle.field.specs.Element.{Good, num}

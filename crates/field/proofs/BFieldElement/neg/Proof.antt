@@ -1,4 +1,4 @@
--- `neg` takes the number from p. Assumes nothing.
+-- `neg` takes the number from p.
 use Prim.Native.Nat.{ℕ, _-_, _%_}
 use mathlib.Core.Path.{ap, _∙_}
 use native.Mathlib.Nat.{le-of-lt, zero-add}

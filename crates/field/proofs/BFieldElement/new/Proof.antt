@@ -1,4 +1,4 @@
--- `new` makes the element of any number. Assumes nothing.
+-- `new` makes the element of any number.
 use mathlib.Core.Path.{ap, _∙_}
 use lib.Dec.{lit<}
 use Rattle.field.specs.Field.{reduced}

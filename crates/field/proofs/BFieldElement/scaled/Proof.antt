@@ -1,4 +1,4 @@
--- `scaled` multiplies a plain number: one reduction takes off the word's factor. Assumes nothing.
+-- `scaled` multiplies a plain number: one reduction takes off the word's factor.
 use mathlib.Core.Path.{_∙_}
 use Rattle.field.specs.Element.{Good, num}
 use Rattle.field.proofs.Elements.{num-scaled}

@@ -1,4 +1,4 @@
--- `squared` raises to the power 2 ^ times. The loop's invariant: after i turns res stands for the 2 ^ i th power. Assumes nothing.
+-- `squared` raises to the power 2 ^ times. The loop's invariant: after i turns res stands for the 2 ^ i th power.
 use native.Mathlib.Omega.{arith}
 use mathlib.Core.Path.{ap, _∙_, subst}
 use Prim.Native.Nat.{ℕ, _-_, _≤_, _%_, _^_}

@@ -1,4 +1,4 @@
--- `sub` subtracts the numbers. Assumes nothing.
+-- `sub` subtracts the numbers.
 use mathlib.Core.Path.{ap, _∙_}
 use native.Mathlib.Nat.{le-of-lt}
 use Rattle.field.specs.Field.{reduced}

@@ -1,4 +1,4 @@
--- `value` reads the number: a reduction of the word alone. Assumes nothing.
+-- `value` reads the number: a reduction of the word alone.
 use borrow.Author.Needs.{needs}
 use mathlib.Core.Path.{ap, _∙_}
 use native.Mathlib.Nat.{zero-add}
