@@ -1,4 +1,4 @@
--- What a function is told of an array of unsigned integers that it gets by value: how many there are, and that each fits its width. Assumes nothing.
+-- What a function is told of an array of unsigned integers that it gets by value: how many there are, and that each fits its width.
 use mathlib.Core.List.{List, [], _∷_}
 use Prim.Native.Nat.{ℕ, zero, suc, _^_, _<_}
 use mir.Syntax.{Width}

@@ -1,4 +1,4 @@
--- The digits of sums of blocks, of `xor`, `and`, `or`, and of a complement; what a complement does to them. Assumes nothing.
+-- The digits of sums of blocks, of `xor`, `and`, `or`, and of a complement; what a complement does to them.
 use mathlib.Core.Path.{_≡_, refl, sym, ap, ap₂, _∙_}
 use mathlib.Core.Logic.{_⊎_, inl, inr, ⊎-elim}
 use Prim.Native.Nat.{ℕ, zero, suc, _+_, _-_, _*_, _/_, _%_, _^_, _<_, _≤_}

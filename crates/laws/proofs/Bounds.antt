@@ -1,4 +1,4 @@
--- Lists of n numbers, each below a bound. Assumes nothing.
+-- Lists of n numbers, each below a bound.
 use mathlib.Core.Path.{_≡_, refl, sym, _∙_, subst}
 use mathlib.Core.List.{List}
 use mathlib.Core.Logic.{⊎-elim}
@@ -35,7 +35,8 @@ pub rest-below : {b n i : ℕ} {g : ℕ → ℕ → ℕ} {old new : List ℕ} �
 rest-below {b} l m j q = subst (λ (x : ℕ). x < b) (sym (m .rest j q)) (l .each j)
 
 -- a loop that stores numbers below the bound
-pub mapped-below : {b n i : ℕ} {g : ℕ → ℕ → ℕ} {old new : List ℕ} → ((j : ℕ) → g j (getD old j 0) < b) → Below b n old → Mapped g i old new → Below b n new
+pub mapped-below : {b n i : ℕ} {g : ℕ → ℕ → ℕ} {old new : List ℕ} → ((j : ℕ) → g j (getD old j 0) < b) → Below b n old → Mapped g i old new
+    → Below b n new
 mapped-below {b} {n} {i} {g} {old} {new} h l m = record {
   size = m .same-length ∙ l .size;
   each = λ j. ⊎-elim
@@ -56,11 +57,15 @@ below-both h g = (record { size = refl; each = h .each }, record { size = g .siz
 pub is-below : {b n : ℕ} {l : List ℕ} → 0 < b → length l ≡ n → ((j : ℕ) → j < n → getD l j 0 < b) → Below b n l
 is-below {b} {n} {l} pos e h = record {
   size = e;
-  each = λ j. ⊎-elim (λ q. subst (λ (x : ℕ). x < b) (sym (List·getD-eq-default l 0 (let g : length l ≤ j = omega arith in g))) pos) (h j) (le-or-lt n j);
+  each = λ j. ⊎-elim (past j) (h j) (le-or-lt n j);
 }
+  where
+    past : (j : ℕ) → n ≤ j → getD l j 0 < b
+    past j q = let g : length l ≤ j = omega arith in subst (λ (x : ℕ). x < b) (sym (List·getD-eq-default l 0 g)) pos
 
 -- one more stored
-pub stored-below : {b : ℕ} (l : List ℕ) (i v : ℕ) → i < length l → v < b → ((j : ℕ) → j < i → getD l j 0 < b) → (j : ℕ) → j < i + 1 → getD (set l i v) j 0 < b
+pub stored-below : {b : ℕ} (l : List ℕ) (i v : ℕ) → i < length l → v < b → ((j : ℕ) → j < i → getD l j 0 < b)
+    → (j : ℕ) → j < i + 1 → getD (set l i v) j 0 < b
 stored-below {b} l i v h g p j q = at (ℕ-discrete j i)
   where
     at : Dec (j ≡ i) → getD (set l i v) j 0 < b

@@ -1,7 +1,8 @@
--- Numbers modulo m: remainders inside a sum or a product may be taken or left. Assumes nothing.
+-- Numbers modulo m: remainders inside a sum or a product may be taken or left.
 use mathlib.Core.Path.{_≡_, refl, sym, ap, _∙_}
 use Prim.Native.Nat.{ℕ, _+_, _*_, _-_, _/_, _%_, _≤_, _<_}
-use native.Mathlib.Nat.{mod-mod, mod-eq-of-lt, add-mod, mod-add-mod, add-mod-mod, add-mul-mod-self-right, add-mod-right, div-add-mod', mul-comm, le-of-lt, mod-lt, zero-add}
+use native.Mathlib.Nat.{mod-mod, mod-eq-of-lt, add-mod, mod-add-mod, add-mod-mod, add-mul-mod-self-right}
+use native.Mathlib.Nat.{add-mod-right, div-add-mod', mul-comm, le-of-lt, mod-lt, zero-add}
 use native.Mathlib.Omega.{arith}
 use Rattle.laws.specs.Congruence.{Cong}
 

@@ -1,5 +1,5 @@
 -- The product of two polynomials over any commutative ring, plain and modulo X^N + 1; and the identity of matrix products on which the opening
--- of a packet rests. Assumes nothing.
+-- of a packet rests.
 use mathlib.Core.Path.{_≡_, refl, sym, _∙_, ap, subst}
 use mathlib.Core.List.{[], _∷_}
 use mathlib.Core.Bool.{Bool, true, false}
@@ -12,7 +12,8 @@ use Rattle.laws.specs.Rings.{CRing, pow, sum, poly}
 use Rattle.laws.proofs.Orders.{le-or-lt}
 use Rattle.laws.proofs.Rings.{ring, zero-add, mul-zero, zero-mul, mul-neg, add-mul}
 use Rattle.laws.proofs.RingSolver.{v, _:+_, :-_, ring-eq}
-use Rattle.laws.proofs.Sums.{sum-ext, sum-add, sum-scale, sum-scale-right, sum-neg, sum-split, sum-swap, sum-none, sum-single, pow-add, poly-ext, poly-neg, poly-split}
+use Rattle.laws.proofs.Sums.{sum-ext, sum-add, sum-scale, sum-scale-right, sum-neg, sum-split, sum-swap}
+use Rattle.laws.proofs.Sums.{sum-none, sum-single, pow-add, poly-ext, poly-neg, poly-split}
 
 module _ (R : CRing) where
   open CRing R using (A, add as _⊕_, mul as _⊗_, neg as ⊖_, 𝟘, 𝟙)
@@ -88,7 +89,8 @@ module _ (R : CRing) where
       ∙ sum-ext R N _ (λ i. a i ⊗ (wrap N b m i ⊗ pow R x m)) (λ i h. R .mul-assoc (a i) (wrap N b m i) (pow R x m)))
       ∙ sum-swap R N N (λ m i. a i ⊗ (wrap N b m i ⊗ pow R x m))
       ∙ sum-ext R N _ (λ i. a i ⊗ pow R x i ⊗ poly R N b x) (λ i h.
-      sum-scale R N (a i) (λ m. wrap N b m i ⊗ pow R x m) ∙ ap (λ w. a i ⊗ w) (shifted-at N i h b x e) ∙ sym (R .mul-assoc (a i) (pow R x i) (poly R N b x)))
+      sum-scale R N (a i) (λ m. wrap N b m i ⊗ pow R x m) ∙ ap (λ w. a i ⊗ w) (shifted-at N i h b x e)
+      ∙ sym (R .mul-assoc (a i) (pow R x i) (poly R N b x)))
       ∙ sum-scale-right R N (λ i. a i ⊗ pow R x i) (poly R N b x)
 
   -- a and b have N coefficients: what is past X^(N-1) in the plain product counts negative
@@ -182,10 +184,14 @@ module _ (R : CRing) where
       ∙ i-1 (sum R m (λ s. sum R n (λ r. b r ⊗ G r s) ⊗ a s)) (sum R n (λ r. b r ⊗ c r)) e (sum R m (λ s. d s ⊗ a s))
     where
       p : sum R n (λ r. b r ⊗ (sum R m (λ s. G r s ⊗ a s) ⊕ c r)) ≡ sum R n (λ r. b r ⊗ sum R m (λ s. G r s ⊗ a s)) ⊕ sum R n (λ r. b r ⊗ c r)
-      p = sum-ext R n _ _ (λ r h. R .mul-add (b r) (sum R m (λ s. G r s ⊗ a s)) (c r)) ∙ sum-add R n (λ r. b r ⊗ sum R m (λ s. G r s ⊗ a s)) (λ r. b r ⊗ c r)
+      p =
+          sum-ext R n _ _ (λ r h. R .mul-add (b r) (sum R m (λ s. G r s ⊗ a s)) (c r))
+          ∙ sum-add R n (λ r. b r ⊗ sum R m (λ s. G r s ⊗ a s)) (λ r. b r ⊗ c r)
 
       q : sum R m (λ s. (sum R n (λ r. b r ⊗ G r s) ⊕ d s) ⊗ a s) ≡ sum R m (λ s. sum R n (λ r. b r ⊗ G r s) ⊗ a s) ⊕ sum R m (λ s. d s ⊗ a s)
-      q = sum-ext R m _ _ (λ s h. add-mul R (sum R n (λ r. b r ⊗ G r s)) (d s) (a s)) ∙ sum-add R m (λ s. sum R n (λ r. b r ⊗ G r s) ⊗ a s) (λ s. d s ⊗ a s)
+      q =
+          sum-ext R m _ _ (λ s h. add-mul R (sum R n (λ r. b r ⊗ G r s)) (d s) (a s))
+          ∙ sum-add R m (λ s. sum R n (λ r. b r ⊗ G r s) ⊗ a s) (λ s. d s ⊗ a s)
 
       i-1 : (x y u w : A) → (x ⊕ y ⊕ u) ⊕ ⊖ (x ⊕ w) ≡ u ⊕ (y ⊕ ⊖ w)
       i-1 x y u w = ring-eq R (x ∷ y ∷ u ∷ w ∷ []) ((v 0 :+ v 1 :+ v 2) :+ :- (v 0 :+ v 3)) (v 2 :+ (v 1 :+ :- v 3)) refl

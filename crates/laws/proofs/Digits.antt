@@ -1,8 +1,10 @@
--- A number from its digits and back, in any base b. Assumes nothing.
+-- A number from its digits and back, in any base b.
 use mathlib.Core.Path.{_≡_, refl, sym, ap, _∙_, subst}
 use mathlib.Core.Logic.{⊎-elim, _⊎_, inl, inr}
 use Prim.Native.Nat.{ℕ, zero, suc, _+_, _*_, _-_, _/_, _%_, _^_, _≤_, _<_}
-use native.Mathlib.Nat.{one-le-pow, pow-zero, pow-suc, mod-lt, mod-eq-of-lt, mod-one, div-add-mod', div-one, add-mul-mod-self-right, add-mul-div-right, div-eq-of-lt, add-zero, zero-add, mul-one, mul-comm, mul-assoc, mul-le-mul-right, not-suc-le-zero, eq-or-lt-of-le, le-of-suc-le-suc}
+use native.Mathlib.Nat.{one-le-pow, pow-zero, pow-suc, mod-lt, mod-eq-of-lt, mod-one, div-add-mod'}
+use native.Mathlib.Nat.{div-one, add-mul-mod-self-right, add-mul-div-right, div-eq-of-lt, add-zero, zero-add, mul-one}
+use native.Mathlib.Nat.{mul-comm, mul-assoc, mul-le-mul-right, not-suc-le-zero, eq-or-lt-of-le, le-of-suc-le-suc}
 use native.Mathlib.Omega.{arith}
 use lib.Pow.{pow-add}
 use Rattle.laws.specs.Digits.{digit, number}
@@ -50,7 +52,8 @@ number-lt b (suc n) f h e =
 digit-below : (b n k s d : ℕ) → 0 < b → k < n → digit b (s + d * b ^ n) k ≡ digit b s k
 unfolding digit
 digit-below b n k s d h l =
-    ap (λ (m : ℕ). m / b ^ k % b) (ap (λ (m : ℕ). s + m) (split b n k d l)) ∙ ap (λ (m : ℕ). m % b) (add-mul-div-right s (d * b ^ (n - suc k) * b) (pow-positive b k h))
+    ap (λ (m : ℕ). m / b ^ k % b) (ap (λ (m : ℕ). s + m) (split b n k d l))
+    ∙ ap (λ (m : ℕ). m % b) (add-mul-div-right s (d * b ^ (n - suc k) * b) (pow-positive b k h))
     ∙ add-mul-mod-self-right (s / b ^ k) (d * b ^ (n - suc k)) b
   where
     split : (b n k d : ℕ) → k < n → d * b ^ n ≡ d * b ^ (n - suc k) * b * b ^ k

@@ -1,12 +1,13 @@
 -- Fermat's theorem for a modulus m whose numbers but 0 are all powers of one of them: x ^ (m - 1) is 1 modulo m. That g is such a number is
 -- shown by one computed test over the prime factors of m - 1, each with the bound of its trial division; that m is prime is never asked.
--- Assumes nothing.
+--
 use mathlib.Core.Path.{_≡_, refl, sym, ap, _∙_, subst}
 use mathlib.Core.Bool.{Bool, true, false, not}
 use mathlib.Core.List.{List, [], _∷_}
 use mathlib.Core.Logic.{_⊎_, inl, inr}
 use Prim.Native.Nat.{ℕ, zero, suc, pred, _+_, _*_, _-_, _/_, _%_, _^_, _≤_, _<_}
-use native.Mathlib.Nat.{one-mul, mul-one, mul-comm, mod-mod, div-add-mod', mod-lt, add-zero, eq-zero-or-pos, eq-or-lt-of-le, le-refl, zero-mod, zero-mul, mul-mod-right, mul-le-mul, add-sub-of-le, suc-pred-eq-of-ne-zero, suc-pred-eq-of-pos}
+use native.Mathlib.Nat.{one-mul, mul-one, mul-comm, mod-mod, div-add-mod', mod-lt, add-zero, eq-zero-or-pos, eq-or-lt-of-le}
+use native.Mathlib.Nat.{le-refl, zero-mod, zero-mul, mul-mod-right, mul-le-mul, add-sub-of-le, suc-pred-eq-of-ne-zero, suc-pred-eq-of-pos}
 use native.Mathlib.Decide.{decLe, decLt}
 use native.Mathlib.Omega.{arith}
 use lib.Dec.{T, ltb, eqb, ltb→lt, eqb→eq}
@@ -111,7 +112,8 @@ module _ (m w q : ℕ) (prime : NoDivisor q) (hq : One m w q) (ne : One m w 1 �
 abbrev Multiple : ℕ → ℕ → Type 0
 Multiple A d = (t : ℕ) × (d ≡ A * t)
 
-next-factor : (m g N A q M d : ℕ) → NoDivisor q → 0 < q → N ≡ A * M * q → One m g N → (One m g (A * M) → ⊥) → One m g d → Multiple A d → Multiple (A * q) d
+next-factor : (m g N A q M d : ℕ) → NoDivisor q → 0 < q → N ≡ A * M * q → One m g N → (One m g (A * M) → ⊥)
+    → One m g d → Multiple A d → Multiple (A * q) d
 next-factor m g N A q M d prime pos eN hN ne hd (t, e) =
     (t / q, e ∙ ap (λ (n : ℕ). A * n) (sym (div-add-mod' t q) ∙ ap (λ (n : ℕ). t / q * q + n) z) ∙ regroup A (t / q) q)
   where

@@ -1,5 +1,5 @@
 -- The tree of a fast transform, over any commutative ring: X^(t+t) - z*z = (X^t - z)(X^t + z), node by node, in heap order.
--- Node n has the number W n; its children are n + n and n + n + 1, with W (n + n) = z and W (n + n + 1) = - z where z * z = W n. Assumes nothing.
+-- Node n has the number W n; its children are n + n and n + n + 1, with W (n + n) = z and W (n + n + 1) = - z where z * z = W n.
 use mathlib.Core.Path.{_≡_, refl, sym, _∙_, ap, subst}
 use mathlib.Core.List.{[], _∷_}
 use Prim.Native.Nat.{ℕ, zero, suc, _+_, _*_, _-_, _≤_, _<_}

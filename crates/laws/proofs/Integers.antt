@@ -1,5 +1,5 @@
 -- Integers: how large sums and products are, and what they leave modulo any m above 0. An integer is the difference of two naturals, `over` less
--- `under`, one of which is 0. Assumes nothing.
+-- `under`, one of which is 0.
 use mathlib.Core.Path.{_≡_, refl, sym, ap, _∙_, subst}
 use mathlib.Core.Logic.{⊎-elim}
 use Prim.Native.Nat.{ℕ, zero, suc, _+_, _*_, _-_, _%_, _≤_, _<_}

@@ -1,5 +1,5 @@
 -- There is a polynomial with 2^d coefficients that has given values at the 2^d leaves below a node. Over any commutative ring with a half.
--- Assumes nothing.
+--
 use mathlib.Core.Path.{_≡_, refl, _∙_, ap, subst}
 use mathlib.Core.Bool.{Bool, true, false}
 use Prim.Native.Nat.{ℕ, zero, suc, _+_, _*_, _-_, _≤_, _<_}
@@ -34,9 +34,14 @@ module _ (R : CRing) where
 
     join-high : (t : ℕ) (c d : ℕ → A) (y : A) (j : ℕ) → join t c d y (t + j) ≡ (half ⊗ c j ⊕ ⊖ (half ⊗ d j)) ⊗ y
     unfolding join
-    join-high t c d y j = go (ltb (t + j) t) (λ p. let h = ltb→lt (t + j) t p in omega arith) ∙ ap (λ m. (half ⊗ c m ⊕ ⊖ (half ⊗ d m)) ⊗ y) (add-sub-cancel-left t j)
+    join-high t c d y j =
+        go (ltb (t + j) t) (λ p. let h = ltb→lt (t + j) t p in omega arith)
+        ∙ ap (λ m. (half ⊗ c m ⊕ ⊖ (half ⊗ d m)) ⊗ y) (add-sub-cancel-left t j)
       where
-        go : (b : Bool) → ¬ (T b) → elim b as (λ x. A) [ true ↦ half ⊗ c (t + j) ⊕ half ⊗ d (t + j) | false ↦ (half ⊗ c (t + j - t) ⊕ ⊖ (half ⊗ d (t + j - t))) ⊗ y ]
+        go : (b : Bool) → ¬ (T b) → elim b as (λ x. A) [
+          | true ↦ half ⊗ c (t + j) ⊕ half ⊗ d (t + j)
+          | false ↦ (half ⊗ c (t + j - t) ⊕ ⊖ (half ⊗ d (t + j - t))) ⊗ y
+        ]
             ≡ (half ⊗ c (t + j - t) ⊕ ⊖ (half ⊗ d (t + j - t))) ⊗ y
         go true h = absurd (h tt)
         go false h = refl

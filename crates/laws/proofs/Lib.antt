@@ -13,6 +13,7 @@ pub mod Monomials
 pub mod ModularSolver
 pub mod Generators
 pub mod Rings
+pub mod Pointwise
 pub mod RingSolver
 pub mod Sums
 pub mod Digits
@@ -21,5 +22,6 @@ pub mod Halving
 pub mod Interpolation
 pub mod Convolution
 pub mod Bounds
+pub mod Assigned
 pub mod Integers
 pub mod Bits

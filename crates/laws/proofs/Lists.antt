@@ -1,4 +1,4 @@
--- Lists given by an index: their length, their elements, and when two are the same. Assumes nothing.
+-- Lists given by an index: their length, their elements, and when two are the same.
 use mathlib.Core.Path.{_≡_, refl, sym, ap, _∙_, subst}
 use mathlib.Core.List.{List, [], _∷_, _++_}
 use Prim.Native.Nat.{ℕ, zero, suc, _+_, _-_, _<_, _≤_}

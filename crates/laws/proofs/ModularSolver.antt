@@ -2,7 +2,7 @@
 -- `at 0`, `at 1`, .. are the numbers of a list, `lit k` a numeral, `rem a` is a % m and `neg a` is m - a % m. Coefficients are reduced modulo m
 -- and may have any size. Example: u + z v and u - z v add up to twice u:
 --   mod-ring m pos (u ∷ v ∷ z ∷ []) (rem (at 0 ⊞ rem (at 2 ⊠ at 1)) ⊞ rem (at 0 ⊞ neg (at 2 ⊠ at 1))) (lit 2 ⊠ at 0) refl
--- Assumes nothing.
+--
 use mathlib.Core.Path.{_≡_, refl, sym, ap, _∙_}
 use mathlib.Core.Bool.{Bool, true, false}
 use mathlib.Core.List.{List, [], _∷_}

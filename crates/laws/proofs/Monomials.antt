@@ -1,4 +1,4 @@
--- Monomials of the two solvers, each the list of its variables: when two are the same, and which comes first. Assumes nothing.
+-- Monomials of the two solvers, each the list of its variables: when two are the same, and which comes first.
 use mathlib.Core.Path.{_≡_, refl}
 use mathlib.Core.Bool.{Bool, true, false}
 use mathlib.Core.List.{List, [], _∷_}

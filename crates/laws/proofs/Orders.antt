@@ -1,4 +1,4 @@
--- Numbers compared. Assumes nothing.
+-- Numbers compared.
 use mathlib.Core.Path.{_≡_, refl}
 use mathlib.Core.Bool.{Bool, true, false}
 use mathlib.Core.Logic.{_⊎_, inl, inr}

@@ -1,4 +1,4 @@
--- A list whose n elements from s on were replaced by those of r: what a call leaves that was lent a part. Assumes nothing.
+-- A list whose n elements from s on were replaced by those of r: what a call leaves that was lent a part.
 use mathlib.Core.Path.{_≡_, sym, ap, ap₂, _∙_, subst}
 use mathlib.Core.List.{List, [], _++_, append-nil}
 use mathlib.Core.Logic.{⊎-elim}

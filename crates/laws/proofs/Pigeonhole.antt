@@ -1,4 +1,4 @@
--- The pigeonhole law: a function that keeps the numbers below n below n, and apart, meets each of them. Assumes nothing.
+-- The pigeonhole law: a function that keeps the numbers below n below n, and apart, meets each of them.
 use mathlib.Core.Path.{_≡_, sym, _∙_, subst}
 use Prim.Native.Nat.{ℕ, zero, suc, _<_}
 use native.Mathlib.Nat.{not-suc-le-zero, lt-irrefl}
@@ -15,14 +15,14 @@ abbrev pub Meets : ℕ → (ℕ → ℕ) → ℕ → Type 0
 Meets n f y = (i : ℕ) × (i < n) × (f i ≡ y)
 
 -- a, where x is y, and b otherwise
-abbrev pick : {x y : ℕ} → Dec (x ≡ y) → ℕ → ℕ → ℕ
-pick (yes _) a b = a
-pick (no _) a b = b
+abbrev redirect : {x y : ℕ} → Dec (x ≡ y) → ℕ → ℕ → ℕ
+redirect (yes _) a b = a
+redirect (no _) a b = b
 
 -- one number fewer: what went to n goes to where n went
 module _ (n : ℕ) (f : ℕ → ℕ) (inside : Inside (suc n) f) (apart : Apart (suc n) f) where
   abbrev g : ℕ → ℕ
-  g i = pick (ℕ-discrete (f i) n) (f n) (f i)
+  g i = redirect (ℕ-discrete (f i) n) (f n) (f i)
 
   -- a lower number does not go where n goes
   alone : (i : ℕ) → i < n → f i ≡ f n → ⊥
@@ -34,14 +34,14 @@ module _ (n : ℕ) (f : ℕ → ℕ) (inside : Inside (suc n) f) (apart : Apart 
   g-inside : Inside n g
   g-inside i h = go (ℕ-discrete (f i) n)
     where
-      go : (d : Dec (f i ≡ n)) → pick d (f n) (f i) < n
+      go : (d : Dec (f i ≡ n)) → redirect d (f n) (f i) < n
       go (yes e) = below (f n) (inside n (omega arith)) (λ q. alone i h (e ∙ sym q))
       go (no ne) = below (f i) (inside i (omega arith)) ne
 
   g-apart : Apart n g
   g-apart i j hi hj = go (ℕ-discrete (f i) n) (ℕ-discrete (f j) n)
     where
-      go : (d : Dec (f i ≡ n)) (d' : Dec (f j ≡ n)) → pick d (f n) (f i) ≡ pick d' (f n) (f j) → i ≡ j
+      go : (d : Dec (f i ≡ n)) (d' : Dec (f j ≡ n)) → redirect d (f n) (f i) ≡ redirect d' (f n) (f j) → i ≡ j
       go (yes e) (yes e') q = apart i j (omega arith) (omega arith) (e ∙ sym e')
       go (yes e) (no ne) q = absurd (alone j hj (sym q))
       go (no ne) (yes e) q = absurd (alone i hi q)
@@ -51,12 +51,12 @@ module _ (n : ℕ) (f : ℕ → ℕ) (inside : Inside (suc n) f) (apart : Apart 
   one-more met y h = go (ℕ-discrete (f n) y) (ℕ-discrete y n)
     where
       -- i meets y under g
-      straight : (i : ℕ) → i < n → (d : Dec (f i ≡ n)) → pick d (f n) (f i) ≡ y → Meets (suc n) f y
+      straight : (i : ℕ) → i < n → (d : Dec (f i ≡ n)) → redirect d (f n) (f i) ≡ y → Meets (suc n) f y
       straight i hi (yes e) q = (n, omega arith, q)
       straight i hi (no ne) q = (i, omega arith, q)
 
       -- y is n, and i meets f n under g
-      swapped : (i : ℕ) → i < n → y ≡ n → (d : Dec (f i ≡ n)) → pick d (f n) (f i) ≡ f n → Meets (suc n) f y
+      swapped : (i : ℕ) → i < n → y ≡ n → (d : Dec (f i ≡ n)) → redirect d (f n) (f i) ≡ f n → Meets (suc n) f y
       swapped i hi e (yes q) _ = (i, omega arith, q ∙ sym e)
       swapped i hi e (no ne) q = absurd (alone i hi q)
 

@@ -1,8 +1,9 @@
--- Powers modulo m: their laws, and two ways in which they are computed: by halving the exponent, and digit by digit from its top. Assumes nothing.
+-- Powers modulo m: their laws, and two ways in which they are computed: by halving the exponent, and digit by digit from its top.
 use mathlib.Core.Path.{_≡_, refl, sym, ap, _∙_, subst}
 use mathlib.Core.Logic.{_⊎_, inl, inr}
 use Prim.Native.Nat.{ℕ, zero, suc, _+_, _*_, _-_, _/_, _%_, _^_, _≤_, _<_}
-use native.Mathlib.Nat.{pow-zero, pow-suc, one-mul, mul-one, mul-zero, mul-suc, add-zero, mod-lt, mod-eq-of-lt, div-add-mod', two-pow-succ, div-div-eq-div-mul, eq-zero-or-pos, zero-div, div-eq-of-lt}
+use native.Mathlib.Nat.{pow-zero, pow-suc, one-mul, mul-one, mul-zero, mul-suc, add-zero, mod-lt}
+use native.Mathlib.Nat.{mod-eq-of-lt, div-add-mod', two-pow-succ, div-div-eq-div-mul, eq-zero-or-pos, zero-div, div-eq-of-lt}
 use native.Mathlib.Numerals.{add-one}
 use native.Mathlib.Omega.{arith}
 use lib.Arith.{lt-one}
@@ -62,7 +63,9 @@ double m x n = pow-mod m (x * x) n ∙ ap (λ (k : ℕ). k % m) (mul-pow x x n �
 factor-is : (m x b h n : ℕ) → b < 2 → h ≡ (x ^ (n * 2)) % m → factor m x b h ≡ (x ^ (n * 2 + b)) % m
 unfolding factor
 factor-is m x zero h n l e = e ∙ ap (λ (k : ℕ). (x ^ k) % m) (sym (add-zero (n * 2)))
-factor-is m x (suc zero) h n l e = ap (λ (k : ℕ). (k * x) % m) e ∙ mul-mod-l m (x ^ (n * 2)) x ∙ ap (λ (k : ℕ). k % m) (sym (pow-suc x (n * 2)) ∙ ap (λ (k : ℕ). x ^ k) (omega arith))
+factor-is m x (suc zero) h n l e =
+    ap (λ (k : ℕ). (k * x) % m) e ∙ mul-mod-l m (x ^ (n * 2)) x
+    ∙ ap (λ (k : ℕ). k % m) (sym (pow-suc x (n * 2)) ∙ ap (λ (k : ℕ). x ^ k) (omega arith))
 factor-is m x (suc (suc b)) h n l e = absurd (omega arith)
 
 half-lt : (fuel e : ℕ) → e < 2 ^ suc fuel → e / 2 < 2 ^ fuel
@@ -92,7 +95,9 @@ above w e h = go (eq-zero-or-pos e)
 
 -- twice the digits above k and the digit at k are the digits from k on
 next-digit : (e k : ℕ) → e / 2 ^ suc k + e / 2 ^ suc k + (e / 2 ^ k) % 2 ≡ e / 2 ^ k
-next-digit e k = ap (λ (n : ℕ). n + n + (e / 2 ^ k) % 2) (ap (λ (n : ℕ). e / n) (pow-suc 2 k) ∙ sym (div-div-eq-div-mul e (2 ^ k) 2)) ∙ halves (e / 2 ^ k)
+next-digit e k =
+    ap (λ (n : ℕ). n + n + (e / 2 ^ k) % 2) (ap (λ (n : ℕ). e / n) (pow-suc 2 k) ∙ sym (div-div-eq-div-mul e (2 ^ k) 2))
+    ∙ halves (e / 2 ^ k)
   where
     halves : (n : ℕ) → n / 2 + n / 2 + n % 2 ≡ n
     halves n = omega arith

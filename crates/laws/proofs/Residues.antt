@@ -1,8 +1,9 @@
--- The numbers below m, for any m above 0, as a commutative ring; `mk` takes any number there and keeps sums and products. Assumes nothing.
+-- The numbers below m, for any m above 0, as a commutative ring; `mk` takes any number there and keeps sums and products.
 use mathlib.Core.Path.{_≡_, refl, sym, _∙_, ap}
 use mathlib.Core.HLevel.{Σ-prop-path}
 use Prim.Native.Nat.{ℕ, zero, suc, _+_, _*_, _-_, _%_, _^_, _<_}
-use native.Mathlib.Nat.{mod-lt, mod-mod, mod-eq-of-lt, mod-add-mod, add-mod-mod, add-assoc, add-comm, add-zero, mul-comm, mul-assoc, mul-one, mul-add, mod-self, add-sub-of-le, le-of-lt, zero-mod, pow-zero, pow-suc}
+use native.Mathlib.Nat.{mod-lt, mod-mod, mod-eq-of-lt, mod-add-mod, add-mod-mod, add-assoc, add-comm, add-zero, mul-comm}
+use native.Mathlib.Nat.{mul-assoc, mul-one, mul-add, mod-self, add-sub-of-le, le-of-lt, zero-mod, pow-zero, pow-suc}
 use native.Mathlib.Bridge.{le-prop}
 use native.Mathlib.Omega.{arith}
 use Rattle.laws.specs.Rings.{CRing, pow, sum}
@@ -36,11 +37,13 @@ module _ (m : ℕ) (pos : 0 < m) where
     neg = rneg;
     𝟘 = mk 0;
     𝟙 = mk 1;
-    add-assoc = λ a b c. residue-path (mod-add-mod (a .0 + b .0) m (c .0) ∙ ap (λ x. x % m) (add-assoc (a .0) (b .0) (c .0)) ∙ sym (add-mod-mod (a .0) (b .0 + c .0) m));
+    add-assoc = λ a b c. residue-path (mod-add-mod (a .0 + b .0) m (c .0) ∙ ap (λ x. x % m) (add-assoc (a .0) (b .0) (c .0))
+        ∙ sym (add-mod-mod (a .0) (b .0 + c .0) m));
     add-comm = λ a b. residue-path (ap (λ x. x % m) (add-comm (a .0) (b .0)));
     add-zero = λ a. residue-path (ap (λ x. (a .0 + x) % m) (zero-mod m) ∙ ap (λ x. x % m) (add-zero (a .0)) ∙ mod-eq-of-lt (a .1));
     add-neg = λ a. residue-path (add-mod-mod (a .0) (m - a .0) m ∙ ap (λ x. x % m) (add-sub-of-le (le-of-lt (a .1))) ∙ mod-self m ∙ sym (zero-mod m));
-    mul-assoc = λ a b c. residue-path (mul-mod-l m (a .0 * b .0) (c .0) ∙ ap (λ x. x % m) (mul-assoc (a .0) (b .0) (c .0)) ∙ sym (mul-mod-r m (a .0) (b .0 * c .0)));
+    mul-assoc = λ a b c. residue-path (mul-mod-l m (a .0 * b .0) (c .0) ∙ ap (λ x. x % m) (mul-assoc (a .0) (b .0) (c .0))
+        ∙ sym (mul-mod-r m (a .0) (b .0 * c .0)));
     mul-comm = λ a b. residue-path (ap (λ x. x % m) (mul-comm (a .0) (b .0)));
     mul-one = λ a. residue-path (mul-mod-r m (a .0) 1 ∙ ap (λ x. x % m) (mul-one (a .0)) ∙ mod-eq-of-lt (a .1));
     mul-add = λ a b c. residue-path (mul-mod-r m (a .0) (b .0 + c .0) ∙ ap (λ x. x % m) (mul-add (a .0) (b .0) (c .0))

@@ -1,5 +1,5 @@
 -- A normaliser of expressions of a commutative ring, sound over every one: two expressions with one normal form are equal.
--- `ring-eq R ρ e₁ e₂ refl : ev R ρ e₁ ≡ ev R ρ e₂`, where ρ lists the values of v 0, v 1, .. Assumes nothing.
+-- `ring-eq R ρ e₁ e₂ refl : ev R ρ e₁ ≡ ev R ρ e₂`, where ρ lists the values of v 0, v 1, ..
 use mathlib.Core.Path.{_≡_, refl, sym, _∙_, ap}
 use mathlib.Core.Bool.{Bool, true, false}
 use mathlib.Core.List.{List, [], _∷_}
@@ -10,7 +10,8 @@ use lib.Dec.{ltb, T}
 use lib.ListN.{getD}
 use Rattle.laws.specs.Rings.{CRing}
 use Rattle.laws.proofs.Monomials.{alike, alike-is, first}
-use Rattle.laws.proofs.Rings.{ring, zero-add, add-left-comm, mul-left-comm, neg-add-cancel-left, neg-zero, mul-zero, zero-mul, one-mul, add-mul}
+use Rattle.laws.proofs.Rings.{ring, zero-add, add-left-comm, mul-left-comm, neg-add-cancel-left}
+use Rattle.laws.proofs.Rings.{neg-zero, mul-zero, zero-mul, one-mul, add-mul}
 
 pub data Ex : Type 0 where
   v : ℕ → Ex
@@ -44,14 +45,14 @@ mk zero zero mo P = P
 mk zero (suc m) mo P = term zero (suc m) mo P
 mk (suc p) m mo P = term (suc p) m mo P
 
-abbrev choose : Bool → Bool → ℕ → ℕ → List ℕ → ℕ → ℕ → List ℕ → Normal → Normal → Normal
-choose true b p m mo p′ m′ mo′ P r = mk ((p + p′) - (m + m′)) ((m + m′) - (p + p′)) mo′ P
-choose false true p m mo p′ m′ mo′ P r = term p m mo (term p′ m′ mo′ P)
-choose false false p m mo p′ m′ mo′ P r = term p′ m′ mo′ r
+abbrev placed : Bool → Bool → ℕ → ℕ → List ℕ → ℕ → ℕ → List ℕ → Normal → Normal → Normal
+placed true b p m mo p′ m′ mo′ P r = mk ((p + p′) - (m + m′)) ((m + m′) - (p + p′)) mo′ P
+placed false true p m mo p′ m′ mo′ P r = term p m mo (term p′ m′ mo′ P)
+placed false false p m mo p′ m′ mo′ P r = term p′ m′ mo′ r
 
 abbrev add-term : ℕ → ℕ → List ℕ → Normal → Normal
 add-term p m mo nil = term p m mo nil
-add-term p m mo (term p′ m′ mo′ P) = choose (alike mo mo′) (first mo mo′) p m mo p′ m′ mo′ P (add-term p m mo P)
+add-term p m mo (term p′ m′ mo′ P) = placed (alike mo mo′) (first mo mo′) p m mo p′ m′ mo′ P (add-term p m mo P)
 
 abbrev mul-term : ℕ → ℕ → List ℕ → Normal → Normal
 mul-term p m mo nil = nil
@@ -141,11 +142,15 @@ module _ (R : CRing) where
 
   num-add : (a b : ℕ) → num (a + b) ≡ num a ⊕ num b
   num-add a zero = rw n-add-zero (sym (R .add-zero (num a)))
-  num-add a (suc b) = ap (λ n. num n) (add-suc a b) ∙ num-suc (a + b) ∙ ap (λ x. x ⊕ 𝟙) (num-add a b) ∙ i-add (num a) (num b) ∙ ap (λ x. num a ⊕ x) (sym (num-suc b))
+  num-add a (suc b) =
+      ap (λ n. num n) (add-suc a b) ∙ num-suc (a + b)
+      ∙ ap (λ x. x ⊕ 𝟙) (num-add a b) ∙ i-add (num a) (num b) ∙ ap (λ x. num a ⊕ x) (sym (num-suc b))
 
   num-mul : (a b : ℕ) → num (a * b) ≡ num a ⊗ num b
   num-mul a zero = rw n-mul-zero (sym (mul-zero R (num a)))
-  num-mul a (suc b) = ap (λ n. num n) (mul-suc a b) ∙ num-add (a * b) a ∙ ap (λ x. x ⊕ num a) (num-mul a b) ∙ i-mul (num a) (num b) ∙ ap (λ x. num a ⊗ x) (sym (num-suc b))
+  num-mul a (suc b) =
+      ap (λ n. num n) (mul-suc a b) ∙ num-add (a * b) a
+      ∙ ap (λ x. x ⊕ num a) (num-mul a b) ∙ i-mul (num a) (num b) ∙ ap (λ x. num a ⊗ x) (sym (num-suc b))
 
   co : ℕ → ℕ → A
   co p m = num p ⊕ ⊖ num m
@@ -203,7 +208,7 @@ module _ (R : CRing) where
   add-term-ev ρ p m mo (term p′ m′ mo′ P) = go (alike mo mo′) (first mo mo′) (alike-is mo mo′) (add-term-ev ρ p m mo P)
     where
       go : (a b : Bool) → (T a → mo ≡ mo′) → pev ρ (add-term p m mo P) ≡ co p m ⊗ mon ρ mo ⊕ pev ρ P
-          → pev ρ (choose a b p m mo p′ m′ mo′ P (add-term p m mo P)) ≡ co p m ⊗ mon ρ mo ⊕ (co p′ m′ ⊗ mon ρ mo′ ⊕ pev ρ P)
+          → pev ρ (placed a b p m mo p′ m′ mo′ P (add-term p m mo P)) ≡ co p m ⊗ mon ρ mo ⊕ (co p′ m′ ⊗ mon ρ mo′ ⊕ pev ρ P)
       go true b h e =
           mk-ev ρ ((p + p′) - (m + m′)) ((m + m′) - (p + p′)) mo′ P
           ∙ rw (co-sub (p + p′) (m + m′), co-add p m p′ m′, h tt) (i-join (co p m) (co p′ m′) (mon ρ mo′) (pev ρ P))
@@ -221,13 +226,16 @@ module _ (R : CRing) where
   padd-ev : (ρ : List A) (P Q : Normal) → pev ρ (padd P Q) ≡ pev ρ P ⊕ pev ρ Q
   unfolding pev
   padd-ev ρ nil Q = sym (zero-add R (pev ρ Q))
-  padd-ev ρ (term p m mo P) Q = add-term-ev ρ p m mo (padd P Q) ∙ ap (λ x. co p m ⊗ mon ρ mo ⊕ x) (padd-ev ρ P Q) ∙ sym (R .add-assoc (co p m ⊗ mon ρ mo) (pev ρ P) (pev ρ Q))
+  padd-ev ρ (term p m mo P) Q =
+      add-term-ev ρ p m mo (padd P Q) ∙ ap (λ x. co p m ⊗ mon ρ mo ⊕ x) (padd-ev ρ P Q)
+      ∙ sym (R .add-assoc (co p m ⊗ mon ρ mo) (pev ρ P) (pev ρ Q))
 
   pmul-ev : (ρ : List A) (P Q : Normal) → pev ρ (pmul P Q) ≡ pev ρ P ⊗ pev ρ Q
   unfolding pev
   pmul-ev ρ nil Q = sym (zero-mul R (pev ρ Q))
   pmul-ev ρ (term p m mo P) Q =
-      padd-ev ρ (mul-term p m mo Q) (pmul P Q) ∙ (λ i. mul-term-ev ρ p m mo Q i ⊕ pmul-ev ρ P Q i) ∙ sym (add-mul R (co p m ⊗ mon ρ mo) (pev ρ P) (pev ρ Q))
+      padd-ev ρ (mul-term p m mo Q) (pmul P Q) ∙ (λ i. mul-term-ev ρ p m mo Q i ⊕ pmul-ev ρ P Q i)
+      ∙ sym (add-mul R (co p m ⊗ mon ρ mo) (pev ρ P) (pev ρ Q))
 
   pneg-ev : (ρ : List A) (P : Normal) → pev ρ (pneg P) ≡ ⊖ pev ρ P
   unfolding pev co

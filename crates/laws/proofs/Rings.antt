@@ -1,4 +1,4 @@
--- What follows in every commutative ring, and the rules by which `simp ring` brings both sides of an equation to one form. Assumes nothing.
+-- What follows in every commutative ring, and the rules by which `simp ring` brings both sides of an equation to one form.
 use mathlib.Core.Path.{_≡_, sym, _∙_, ap}
 use Rattle.laws.specs.Rings.{CRing}
 
@@ -87,4 +87,28 @@ module _ (R : CRing) where
   r-mul-add = mul-add
 
 -- `simp ring`: expand, sort, cancel
-pub ruleset ring = (r-add-assoc, r-add-comm, r-add-zero, r-add-neg, r-mul-assoc, r-mul-comm, r-mul-one, r-mul-add, zero-add, neg-add-cancel, add-left-comm, mul-left-comm, add-neg-cancel-left, neg-add-cancel-left, neg-neg, neg-zero, neg-add, mul-zero, zero-mul, one-mul, add-mul, mul-neg, neg-mul)
+pub ruleset ring = (
+  r-add-assoc,
+  r-add-comm,
+  r-add-zero,
+  r-add-neg,
+  r-mul-assoc,
+  r-mul-comm,
+  r-mul-one,
+  r-mul-add,
+  zero-add,
+  neg-add-cancel,
+  add-left-comm,
+  mul-left-comm,
+  add-neg-cancel-left,
+  neg-add-cancel-left,
+  neg-neg,
+  neg-zero,
+  neg-add,
+  mul-zero,
+  zero-mul,
+  one-mul,
+  add-mul,
+  mul-neg,
+  neg-mul,
+)

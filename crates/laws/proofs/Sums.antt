@@ -1,4 +1,4 @@
--- Finite sums, powers and values of polynomials over any commutative ring; sums of numbers. Assumes nothing.
+-- Finite sums, powers and values of polynomials over any commutative ring; sums of numbers.
 use mathlib.Core.Path.{_≡_, refl, sym, _∙_, ap}
 use mathlib.Core.List.{[], _∷_}
 use mathlib.Core.Logic.{_≢_}

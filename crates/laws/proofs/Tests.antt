@@ -1,4 +1,4 @@
--- A computed test at every number below n, and what it proves at each of them. A table's rule is such a test over its places. Assumes nothing.
+-- A computed test at every number below n, and what it proves at each of them. A table's rule is such a test over its places.
 use mathlib.Core.Path.{_≡_, refl, sym, subst}
 use mathlib.Core.Bool.{Bool, true, false}
 use mathlib.Core.Logic.{⊎-elim}

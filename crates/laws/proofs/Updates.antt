@@ -1,5 +1,5 @@
 -- What a loop has done that goes over a slice and stores at each place once: the first i elements are made anew, each from its place
--- and what stood there; the rest is as it was. Assumes nothing.
+-- and what stood there; the rest is as it was.
 use mathlib.Core.Path.{_≡_, refl, sym, ap, _∙_, subst}
 use mathlib.Core.List.{List}
 use Prim.Native.Nat.{ℕ, _+_, _<_, _≤_}
@@ -24,7 +24,8 @@ pub mapped-none : (g : ℕ → ℕ → ℕ) (l : List ℕ) → Mapped g 0 l l
 mapped-none g l = record { same-length = refl; passed = λ j h. absurd (not-suc-le-zero h); rest = λ j h. refl }
 
 -- one turn of the loop
-pub mapped-more : (g : ℕ → ℕ → ℕ) (i v : ℕ) (old new : List ℕ) → i < length old → v ≡ g i (getD old i 0) → Mapped g i old new → Mapped g (i + 1) old (set new i v)
+pub mapped-more : (g : ℕ → ℕ → ℕ) (i v : ℕ) (old new : List ℕ) → i < length old → v ≡ g i (getD old i 0) → Mapped g i old new
+    → Mapped g (i + 1) old (set new i v)
 mapped-more g i v old new h e m = record {
   same-length = length-set new i v ∙ m .same-length;
   passed = λ j q. at j q (ℕ-discrete j i);
@@ -32,11 +33,13 @@ mapped-more g i v old new h e m = record {
 }
   where
     at : (j : ℕ) → j < i + 1 → Dec (j ≡ i) → getD (set new i v) j 0 ≡ g j (getD old j 0)
-    at j q (yes r) = subst (λ (k : ℕ). getD (set new i v) k 0 ≡ g k (getD old k 0)) (sym r) (getD-set-same new i v 0 (omega (arith, m .same-length)) ∙ e)
+    at j q (yes r) =
+        subst (λ (k : ℕ). getD (set new i v) k 0 ≡ g k (getD old k 0)) (sym r) (getD-set-same new i v 0 (omega (arith, m .same-length)) ∙ e)
     at j q (no r) = getD-set-other new i j v 0 r ∙ m .passed j (omega arith)
 
 -- the same where what is stored was made from what stands there now
-pub mapped-step : (g : ℕ → ℕ → ℕ) (i v : ℕ) (old new : List ℕ) → i < length old → v ≡ g i (getD new i 0) → Mapped g i old new → Mapped g (i + 1) old (set new i v)
+pub mapped-step : (g : ℕ → ℕ → ℕ) (i v : ℕ) (old new : List ℕ) → i < length old → v ≡ g i (getD new i 0) → Mapped g i old new
+    → Mapped g (i + 1) old (set new i v)
 mapped-step g i v old new h e m = mapped-more g i v old new h (e ∙ ap (g i) (m .rest i (omega arith))) m
 
 -- the loop's end

@@ -1,4 +1,4 @@
--- Sums and differences that wrap at M: what a comparison says of the carry or borrow that was lost. Assumes nothing.
+-- Sums and differences that wrap at M: what a comparison says of the carry or borrow that was lost.
 use mathlib.Core.Path.{_≡_, refl, sym, ap, _∙_, subst}
 use mathlib.Core.Logic.{_⊎_, inl, inr}
 use Prim.Native.Nat.{ℕ, zero, suc, _+_, _*_, _/_, _%_, _≤_, _<_}

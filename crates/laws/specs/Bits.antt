@@ -1,4 +1,4 @@
--- The binary digits of a number. Assumes nothing.
+-- The binary digits of a number.
 use Prim.Native.Nat.{ℕ, _/_, _%_, _^_}
 
 -- digit z, from the lowest: 0 or 1

@@ -1,4 +1,4 @@
--- Congruence modulo m, as a relation. Assumes nothing.
+-- Congruence modulo m, as a relation.
 use mathlib.Core.Path.{_≡_}
 use Prim.Native.Nat.{ℕ, _%_}
 

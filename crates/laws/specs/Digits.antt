@@ -1,4 +1,4 @@
--- Numbers and their digits in a base, lowest first. Assumes nothing.
+-- Numbers and their digits in a base, lowest first.
 use Prim.Native.Nat.{ℕ, _*_, _/_, _%_, _^_}
 use Rattle.laws.specs.Sums.{total}
 

@@ -1,4 +1,4 @@
--- Integers modulo m. Assumes nothing.
+-- Integers modulo m.
 use Prim.Native.Nat.{ℕ, suc, _-_, _%_}
 use lib.IntN.{ℤ, pos, negsuc}
 

@@ -1,4 +1,4 @@
--- Tables of worked points: what is asked, and the answer that a document tells. Assumes nothing.
+-- Tables of worked points: what is asked, and the answer that a document tells.
 use mathlib.Core.Path.{_≡_}
 use mathlib.Core.List.{List, map}
 use Prim.Native.Nat.{ℕ}

@@ -1,4 +1,4 @@
--- Commutative rings as one record; over any of them powers, finite sums and the value of a polynomial. Assumes nothing.
+-- Commutative rings as one record; over any of them powers, finite sums and the value of a polynomial.
 use mathlib.Core.Path.{_≡_}
 use Prim.Native.Nat.{ℕ, zero, suc}
 

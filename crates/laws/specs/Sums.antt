@@ -1,4 +1,4 @@
--- Finite sums of natural numbers. Assumes nothing.
+-- Finite sums of natural numbers.
 use Prim.Native.Nat.{ℕ, zero, suc, _+_}
 
 -- f 0 + f 1 + .. + f (n - 1)

@@ -6,7 +6,6 @@ pub mod Products
 pub mod Remainders
 pub mod Polynomials
 pub mod Cells
-pub mod Assigned
 pub mod Matrices
 pub mod Blocks
 pub mod Forward

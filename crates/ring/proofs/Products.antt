@@ -4,10 +4,11 @@ use mathlib.Core.Bool.{Bool, true, false}
 use mathlib.Core.List.{List}
 use Prim.Native.Nat.{ℕ, _+_, _*_, _-_, _%_, _<_}
 use lib.Dec.{leb}
-use lib.ListN.{length, getD, set}
+use lib.ListN.{getD, set}
 use Rattle.laws.specs.Rings.{sum, poly}
 use Rattle.laws.specs.Sums.{total}
 use Rattle.laws.proofs.Congruence.{mul-mod-l}
+use Rattle.laws.proofs.Assigned.{Assigned, assigned-step}
 use Rattle.laws.proofs.Residues.{mk-add, mk-mul, mk-sub, mk-total}
 use Rattle.laws.proofs.Sums.{sum-ext, poly-ext, poly-add, poly-neg}
 use Rattle.laws.proofs.Convolution.{wrap, nega, nega-value}
@@ -16,7 +17,6 @@ use Rattle.ring.specs.Transform.{transform, untransform}
 use Rattle.ring.specs.Elements.{plus, minus, hadamard, shift, product}
 use Rattle.ring.proofs.Residue.{F, el, co, co-tab, p-pos, same, remainders}
 use Rattle.ring.proofs.Roots.{W, place-64}
-use Rattle.ring.proofs.Assigned.{Assigned, assigned-more}
 use Rattle.ring.proofs.Transforms.{transform-canonical, transform-value, untransform-transform}
 
 pub plus-canonical : (n : ℕ) (a b : List ℕ) → Coefficients n (plus n a b)
@@ -98,12 +98,6 @@ transform-minus a b ca cb =
     ∙ sym (minus-is 64 (transform a) (transform b) (transform-canonical b) r h
     ∙ (λ i. F .add (transform-value a ca r h i) (F .neg (transform-value b cb r h i)))))
 
--- ---- what is made of a copy
--- f of a copy's n numbers is f of the numbers
-pub of-copy : (f : ℕ → List ℕ → List ℕ → List ℕ) {n : ℕ} {a b copy r : List ℕ} → Coefficients n a → copy ≡ a
-    → r ≡ f (length copy) copy b → r ≡ f n a b
-of-copy f {b = b} c e h = h ∙ (λ i. f ((ap length e ∙ c .size) i) (e i) b)
-
 -- the product, step by step
 pub multiplied : {a b s t u v w r : List ℕ} → Coefficients 64 a → Coefficients 64 b → s ≡ a → t ≡ b → u ≡ transform s → v ≡ transform t
     → w ≡ hadamard u v → r ≡ untransform w → r ≡ product a b
@@ -111,7 +105,7 @@ multiplied {a} {b} ca cb es et eu ev ew er =
     er ∙ ap untransform (ew ∙ (λ i. hadamard ((eu ∙ ap transform es) i) ((ev ∙ ap transform et) i))) ∙ product-through a b ca cb
 
 -- one more entry, where what multiplies was reduced
-pub multiplied-more : {n i : ℕ} {right old new : List ℕ} → Assigned (λ x y. x * y % P) n i right old new → (z v : ℕ) → i < n
-    → z ≡ getD new i 0 % P → v ≡ z * getD right i 0 % P → Assigned (λ x y. x * y % P) n (i + 1) right old (set new i v)
+pub multiplied-more : {n i : ℕ} {right old new : List ℕ} → Assigned (λ x y. x * y % P) n i old right old new → (z v : ℕ) → i < n
+    → z ≡ getD new i 0 % P → v ≡ z * getD right i 0 % P → Assigned (λ x y. x * y % P) n (i + 1) old right old (set new i v)
 multiplied-more {i = i} {right} {new = new} x z v h ez ev =
-    assigned-more x v h (ev ∙ ap (λ n. n * getD right i 0 % P) ez ∙ mul-mod-l P (getD new i 0) (getD right i 0))
+    assigned-step x v h (ev ∙ ap (λ n. n * getD right i 0 % P) ez ∙ mul-mod-l P (getD new i 0) (getD right i 0))

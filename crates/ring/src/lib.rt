@@ -165,16 +165,8 @@ pub fn add_assign(lhs: &mut [u64], rhs: &[u64])
     }
 }
 
-fn sub_assign(lhs: &mut [u64], rhs: &[u64])
-    requires { ⌜ Coefficients (length (now lhs)) (now lhs) × Coefficients (length (now lhs)) (now rhs) ⌝ }
-    ensures { λ r. ⌜ now (lhs .exit) ≡ minus (length (now (lhs .entry))) (now (lhs .entry)) (now (rhs .entry)) ⌝ }
-{
-    for i in 0..lhs.len() {
-        lhs[i] = field::sub_mod_p(lhs[i], rhs[i]);
-    }
-}
-
-fn hadamard_assign(lhs: &mut [u64], rhs: &[u64])
+// The products of the entries of two transformed elements.
+pub fn hadamard_assign(lhs: &mut [u64], rhs: &[u64])
     requires { ⌜ Coefficients 64 (now lhs) × Coefficients 64 (now rhs) ⌝ }
     ensures { λ r. ⌜ now (lhs .exit) ≡ hadamard (now (lhs .entry)) (now (rhs .entry)) ⌝ }
 {
@@ -201,24 +193,18 @@ pub fn add(lhs: &[u64], rhs: &[u64], out: &mut [u64])
     requires { ⌜ Coefficients 64 (now lhs) × Coefficients 64 (now rhs) × (length (now out) ≡ 64) ⌝ }
     ensures { λ r. ⌜ now (out .exit) ≡ plus 64 (now (lhs .entry)) (now (rhs .entry)) ⌝ }
 {
-    copy(lhs, out);
-    add_assign(out, rhs);
+    for i in 0..64 {
+        out[i] = field::add_mod_p(lhs[i], rhs[i]);
+    }
 }
 
 pub fn sub(lhs: &[u64], rhs: &[u64], out: &mut [u64])
     requires { ⌜ Coefficients 64 (now lhs) × Coefficients 64 (now rhs) × (length (now out) ≡ 64) ⌝ }
     ensures { λ r. ⌜ now (out .exit) ≡ minus 64 (now (lhs .entry)) (now (rhs .entry)) ⌝ }
 {
-    copy(lhs, out);
-    sub_assign(out, rhs);
-}
-
-pub fn hadamard(lhs: &[u64], rhs: &[u64], out: &mut [u64])
-    requires { ⌜ Coefficients 64 (now lhs) × Coefficients 64 (now rhs) × (length (now out) ≡ 64) ⌝ }
-    ensures { λ r. ⌜ now (out .exit) ≡ hadamard (now (lhs .entry)) (now (rhs .entry)) ⌝ }
-{
-    copy(lhs, out);
-    hadamard_assign(out, rhs);
+    for i in 0..64 {
+        out[i] = field::sub_mod_p(lhs[i], rhs[i]);
+    }
 }
 
 // The sum with one product more: place p of a vector times place q of a matrix.

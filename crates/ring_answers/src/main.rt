@@ -46,11 +46,8 @@ fn tell_pair(op: u64, a: &[u64], b: &[u64])
     } else if op == RSUB {
         ring::sub(a, b, &mut out);
         lines::tell_all(&out);
-    } else if op == RMUL {
-        ring::multiply(a, b, &mut out);
-        lines::tell_all(&out);
     } else {
-        ring::hadamard(a, b, &mut out);
+        ring::multiply(a, b, &mut out);
         lines::tell_all(&out);
     }
 }
@@ -61,7 +58,12 @@ fn answer_pair(op: u64) {
     let mut b = [0u64; 64];
     lines::read_numbers(&mut a);
     lines::read_numbers(&mut b);
-    tell_pair(op, &a, &b);
+    if op == HADA {
+        ring::hadamard_assign(&mut a, &b);
+        lines::tell_all(&a);
+    } else {
+        tell_pair(op, &a, &b);
+    }
 }
 
 // A matrix and a column.

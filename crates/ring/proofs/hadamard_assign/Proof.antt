@@ -4,13 +4,13 @@ use native.Mathlib.Omega.{arith}
 use Prim.Native.Nat.{_*_, _-_, _%_}
 use Rattle.field.specs.Field.{P}
 use Rattle.ring.specs.Elements.{hadamard}
-use Rattle.ring.proofs.Assigned.{Assigned, assigned-none, assigned-all}
+use Rattle.laws.proofs.Assigned.{Assigned, assigned-none, assigned-all}
 use Rattle.ring.proofs.Products.{multiplied-more}
 use Rattle.ring.proofs.hadamard_assign.Statement.{statement}
 use Rattle.ring.proofs.hadamard_assign.Tie as tie
 
 abbrev Inv-loop : tie.InvT-loop
-Inv-loop lhs₀ rhs i₀ lhs i = Assigned (λ x y. x * y % P) 64 i rhs lhs₀ lhs
+Inv-loop lhs₀ rhs i₀ lhs i = Assigned (λ x y. x * y % P) 64 i lhs₀ rhs lhs₀ lhs
 
 abbrev μ-loop : tie.MeasureT-loop
 μ-loop lhs₀ rhs i₀ lhs i = 64 - i

@@ -1,12 +1,27 @@
--- `sub` is `sub_assign` on a copy.
+-- `sub` subtracts, coefficient by coefficient.
 use borrow.Author.Needs.{needs}
-use Rattle.laws.proofs.Bounds.{below-as, below-both}
+use native.Mathlib.Omega.{arith}
+use native.Mathlib.Nat.{le-of-lt}
+use Prim.Native.Nat.{_+_, _-_, _%_}
+use Rattle.laws.proofs.Assigned.{Assigned, assigned-none, assigned-more, assigned-all, below-at}
+use Rattle.field.specs.Field.{P}
 use Rattle.ring.specs.Elements.{minus}
-use Rattle.ring.proofs.Products.{of-copy}
 use Rattle.ring.proofs.sub.Statement.{statement}
 use Rattle.ring.proofs.sub.Tie as tie
 
+abbrev Inv-loop : tie.InvT-loop
+Inv-loop lhs rhs out₀ i₀ out i = Assigned (λ x y. (x + (P - y)) % P) 64 i lhs rhs out₀ out
+
+abbrev μ-loop : tie.MeasureT-loop
+μ-loop lhs rhs out₀ i₀ out i = 64 - i
+
+returns : tie.Need-returns Inv-loop μ-loop
+unfolding minus
+returns c = assigned-all (c .before .loop .inv) (omega arith) 64 (c .before .loop .inv .size)
+
 pub sub-spec : {M : Type 1} → statement M
 sub-spec =
-    tie.close (tie.spec (λ c κs. search needs) (λ c κs. below-both {n = 64} (search (needs, below-as)) (search needs)) (λ c. search needs)
-    (λ c. search (needs, of-copy minus)))
+    tie.close (tie.spec Inv-loop μ-loop (λ c. search assigned-none) (λ c. search needs)
+    (λ c. search needs) (λ c. search needs) (λ c. search needs) (λ c κs. (search below-at, le-of-lt (search below-at)))
+    (λ c. search needs) (λ c. search needs) (λ c. search needs) (λ c. search needs)
+    (λ c. search (needs, assigned-more)) (λ c. search needs) returns)
