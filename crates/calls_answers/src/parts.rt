@@ -2,8 +2,8 @@
 use crate::arguments;
 use crate::question::Question;
 use crate::tell;
-use judge::Answer;
-use judge::Given;
+use refusals::Answer;
+use refusals::Given;
 
 const FNEW: u64 = 0x666e_6577;
 

@@ -1,9 +1,9 @@
 // An answer's line, but for its end.
 use crate::arguments;
-use judge::Answer;
-use judge::Given;
-use judge::Refusal;
 use libc::STDOUT_FILENO;
+use refusals::Answer;
+use refusals::Given;
+use refusals::Refusal;
 
 fn refusal(r: Refusal) {
     let record = r.record();

@@ -4,11 +4,12 @@ ghost use mathlib.Core.Path.{_≡_};
 ghost use mathlib.Core.List.{[], _∷_};
 ghost use Prim.Native.Nat.{_+_, _*_, _-_, _%_, _^_};
 ghost use lib.ListN.{length};
+ghost use Rattle.laws.specs.Lists.{zeros};
 ghost use Rattle.field.specs.Field.{P};
-ghost use Rattle.judge.specs.Judgement.{judged, then, gives};
-ghost use Rattle.judge.specs.Answers.{said, told};
-ghost use Rattle.calls.specs.Arguments as asks;
-ghost use Rattle.calls.specs.Inverses.{inverse-told};
+ghost use Rattle.refusals.specs.Judgement.{gives, fine};
+ghost use Rattle.refusals.specs.Answers.{said, told, into, tells};
+ghost use Rattle.refusals.specs.Asks as asks;
+ghost use Rattle.refusals.specs.Inverses.{inverse-told};
 ghost use Rattle.codec.specs.Layout.{words, bytes};
 ghost use Rattle.ring.specs.Transform.{transform, untransform};
 ghost use Rattle.ring.specs.Elements.{plus, minus, product};
@@ -18,11 +19,11 @@ ghost use Rattle.lanes.specs.Messages.{embed, extract};
 ghost use Rattle.hash.specs.Fips202.{shake256, sha3-256};
 ghost use Rattle.packets.specs.Packets as packets;
 ghost use Rattle.packets.specs.Layout.{public-bytes, public-of};
-ghost use Rattle.kem_calls.specs.Opened.{opened-told, opened-key, zeros};
+ghost use Rattle.kem_calls.specs.Opened.{opened-told, opened-key};
 ghost use Rattle.job_calls.specs.Jobs.{job-answer, Writes};
-ghost use Rattle.galmuriec_c.specs.Boundary.{Reports, Fills, Gives};
-use judge::Answer;
-use judge::Given;
+ghost use Rattle.galmuriec_c.specs.Boundary.{Reports, Leaves, Fills, Gives};
+use refusals::Answer;
+use refusals::Given;
 
 // ---- what every call ends with
 fn wide(x: u8) -> u64
@@ -69,7 +70,7 @@ pub extern "C" fn galmuriec_field_new(x: u64) -> u64
 
 #[no_mangle]
 pub extern "C" fn galmuriec_field_value(x: u64, result: &mut u64, refusal: &mut [u64; 3]) -> u64
-    ensures { λ r. ⌜ Gives (then (judged (asks.field-value x)) (gives (x ∷ []))) r (now (refusal .exit)) (now (result .entry)) (now (result .exit)) ⌝ }
+    ensures { λ r. ⌜ Gives (tells (asks.field-value x) (gives (x ∷ []))) r (now (refusal .exit)) (now (result .entry)) (now (result .exit)) ⌝ }
 {
     deliver(galmuriec::field::value(x), result, refusal)
 }
@@ -81,7 +82,7 @@ pub extern "C" fn galmuriec_field_add(
     result: &mut u64,
     refusal: &mut [u64; 3],
 ) -> u64
-    ensures { λ r. ⌜ Gives (then (judged (asks.field-add a b)) (gives ((a + b) % P ∷ []))) r (now (refusal .exit)) (now (result .entry)) (now (result .exit)) ⌝ }
+    ensures { λ r. ⌜ Gives (tells (asks.field-add a b) (gives ((a + b) % P ∷ []))) r (now (refusal .exit)) (now (result .entry)) (now (result .exit)) ⌝ }
 {
     deliver(galmuriec::field::add(a, b), result, refusal)
 }
@@ -93,7 +94,7 @@ pub extern "C" fn galmuriec_field_sub(
     result: &mut u64,
     refusal: &mut [u64; 3],
 ) -> u64
-    ensures { λ r. ⌜ Gives (then (judged (asks.field-sub a b)) (gives ((a + (P - b)) % P ∷ []))) r (now (refusal .exit)) (now (result .entry)) (now (result .exit)) ⌝ }
+    ensures { λ r. ⌜ Gives (tells (asks.field-sub a b) (gives ((a + (P - b)) % P ∷ []))) r (now (refusal .exit)) (now (result .entry)) (now (result .exit)) ⌝ }
 {
     deliver(galmuriec::field::sub(a, b), result, refusal)
 }
@@ -105,21 +106,21 @@ pub extern "C" fn galmuriec_field_mul(
     result: &mut u64,
     refusal: &mut [u64; 3],
 ) -> u64
-    ensures { λ r. ⌜ Gives (then (judged (asks.field-mul a b)) (gives (a * b % P ∷ []))) r (now (refusal .exit)) (now (result .entry)) (now (result .exit)) ⌝ }
+    ensures { λ r. ⌜ Gives (tells (asks.field-mul a b) (gives (a * b % P ∷ []))) r (now (refusal .exit)) (now (result .entry)) (now (result .exit)) ⌝ }
 {
     deliver(galmuriec::field::mul(a, b), result, refusal)
 }
 
 #[no_mangle]
 pub extern "C" fn galmuriec_field_neg(a: u64, result: &mut u64, refusal: &mut [u64; 3]) -> u64
-    ensures { λ r. ⌜ Gives (then (judged (asks.field-neg a)) (gives ((P - a) % P ∷ []))) r (now (refusal .exit)) (now (result .entry)) (now (result .exit)) ⌝ }
+    ensures { λ r. ⌜ Gives (tells (asks.field-neg a) (gives ((P - a) % P ∷ []))) r (now (refusal .exit)) (now (result .entry)) (now (result .exit)) ⌝ }
 {
     deliver(galmuriec::field::neg(a), result, refusal)
 }
 
 #[no_mangle]
 pub extern "C" fn galmuriec_field_inverse(a: u64, result: &mut u64, refusal: &mut [u64; 3]) -> u64
-    ensures { λ r. ⌜ Gives (then (judged (asks.field-inverse a)) (inverse-told a)) r (now (refusal .exit)) (now (result .entry)) (now (result .exit)) ⌝ }
+    ensures { λ r. ⌜ Gives (tells (asks.field-inverse a) (inverse-told a)) r (now (refusal .exit)) (now (result .entry)) (now (result .exit)) ⌝ }
 {
     deliver(galmuriec::field::inverse(a), result, refusal)
 }
@@ -131,7 +132,7 @@ pub extern "C" fn galmuriec_field_mod_pow(
     result: &mut u64,
     refusal: &mut [u64; 3],
 ) -> u64
-    ensures { λ r. ⌜ Gives (then (judged (asks.field-mod-pow a)) (gives (a ^ exp % P ∷ []))) r (now (refusal .exit)) (now (result .entry)) (now (result .exit)) ⌝ }
+    ensures { λ r. ⌜ Gives (tells (asks.field-mod-pow a) (gives (a ^ exp % P ∷ []))) r (now (refusal .exit)) (now (result .entry)) (now (result .exit)) ⌝ }
 {
     deliver(galmuriec::field::mod_pow(a, exp), result, refusal)
 }
@@ -139,7 +140,7 @@ pub extern "C" fn galmuriec_field_mod_pow(
 // ---- ring elements of 64 numbers, and matrices of them
 #[no_mangle]
 pub extern "C" fn galmuriec_coset_ntt_noswap_64(array: &mut [u64], refusal: &mut [u64; 3]) -> u64
-    ensures { λ r. ⌜ Fills (judged (asks.coset-ntt-noswap-64 (now (array .entry)))) r (now (refusal .exit)) (now (array .entry)) (now (array .exit))
+    ensures { λ r. ⌜ Fills (asks.coset-ntt-noswap-64 (now (array .entry))) r (now (refusal .exit)) (now (array .entry)) (now (array .exit))
         (transform (now (array .entry))) ⌝ }
 {
     report(galmuriec::ring::coset_ntt_noswap_64(array), refusal)
@@ -147,7 +148,7 @@ pub extern "C" fn galmuriec_coset_ntt_noswap_64(array: &mut [u64], refusal: &mut
 
 #[no_mangle]
 pub extern "C" fn galmuriec_coset_intt_noswap_64(array: &mut [u64], refusal: &mut [u64; 3]) -> u64
-    ensures { λ r. ⌜ Fills (judged (asks.coset-intt-noswap-64 (now (array .entry)))) r (now (refusal .exit)) (now (array .entry)) (now (array .exit))
+    ensures { λ r. ⌜ Fills (asks.coset-intt-noswap-64 (now (array .entry))) r (now (refusal .exit)) (now (array .entry)) (now (array .exit))
         (untransform (now (array .entry))) ⌝ }
 {
     report(galmuriec::ring::coset_intt_noswap_64(array), refusal)
@@ -160,7 +161,7 @@ pub extern "C" fn galmuriec_ring_add(
     out: &mut [u64],
     refusal: &mut [u64; 3],
 ) -> u64
-    ensures { λ r. ⌜ Fills (judged (asks.ring-add (now (lhs .entry)) (now (rhs .entry)) (length (now (out .entry))))) r
+    ensures { λ r. ⌜ Fills (asks.ring-add (now (lhs .entry)) (now (rhs .entry)) (length (now (out .entry)))) r
         (now (refusal .exit)) (now (out .entry)) (now (out .exit)) (plus 64 (now (lhs .entry)) (now (rhs .entry))) ⌝ }
 {
     report(galmuriec::ring::add(lhs, rhs, out), refusal)
@@ -173,7 +174,7 @@ pub extern "C" fn galmuriec_ring_sub(
     out: &mut [u64],
     refusal: &mut [u64; 3],
 ) -> u64
-    ensures { λ r. ⌜ Fills (judged (asks.ring-sub (now (lhs .entry)) (now (rhs .entry)) (length (now (out .entry))))) r
+    ensures { λ r. ⌜ Fills (asks.ring-sub (now (lhs .entry)) (now (rhs .entry)) (length (now (out .entry)))) r
         (now (refusal .exit)) (now (out .entry)) (now (out .exit)) (minus 64 (now (lhs .entry)) (now (rhs .entry))) ⌝ }
 {
     report(galmuriec::ring::sub(lhs, rhs, out), refusal)
@@ -186,7 +187,7 @@ pub extern "C" fn galmuriec_ring_mul(
     out: &mut [u64],
     refusal: &mut [u64; 3],
 ) -> u64
-    ensures { λ r. ⌜ Fills (judged (asks.ring-mul (now (lhs .entry)) (now (rhs .entry)) (length (now (out .entry))))) r
+    ensures { λ r. ⌜ Fills (asks.ring-mul (now (lhs .entry)) (now (rhs .entry)) (length (now (out .entry)))) r
         (now (refusal .exit)) (now (out .entry)) (now (out .exit)) (product (now (lhs .entry)) (now (rhs .entry))) ⌝ }
 {
     report(galmuriec::ring::mul(lhs, rhs, out), refusal)
@@ -199,7 +200,7 @@ pub extern "C" fn galmuriec_matrix_times_column(
     out: &mut [u64],
     refusal: &mut [u64; 3],
 ) -> u64
-    ensures { λ r. ⌜ Fills (judged (asks.matrix-times-column (now (lhs .entry)) (now (rhs .entry)) (length (now (out .entry))))) r
+    ensures { λ r. ⌜ Fills (asks.matrix-times-column (now (lhs .entry)) (now (rhs .entry)) (length (now (out .entry)))) r
         (now (refusal .exit)) (now (out .entry)) (now (out .exit)) (matrix 4 4 1 (now (lhs .entry)) (now (rhs .entry))) ⌝ }
 {
     report(
@@ -215,7 +216,7 @@ pub extern "C" fn galmuriec_row_times_matrix(
     out: &mut [u64],
     refusal: &mut [u64; 3],
 ) -> u64
-    ensures { λ r. ⌜ Fills (judged (asks.row-times-matrix (now (lhs .entry)) (now (rhs .entry)) (length (now (out .entry))))) r
+    ensures { λ r. ⌜ Fills (asks.row-times-matrix (now (lhs .entry)) (now (rhs .entry)) (length (now (out .entry)))) r
         (now (refusal .exit)) (now (out .entry)) (now (out .exit)) (matrix 1 4 4 (now (lhs .entry)) (now (rhs .entry))) ⌝ }
 {
     report(galmuriec::matrix::row_times_matrix(lhs, rhs, out), refusal)
@@ -228,7 +229,7 @@ pub extern "C" fn galmuriec_row_times_column(
     out: &mut [u64],
     refusal: &mut [u64; 3],
 ) -> u64
-    ensures { λ r. ⌜ Fills (judged (asks.row-times-column (now (lhs .entry)) (now (rhs .entry)) (length (now (out .entry))))) r
+    ensures { λ r. ⌜ Fills (asks.row-times-column (now (lhs .entry)) (now (rhs .entry)) (length (now (out .entry)))) r
         (now (refusal .exit)) (now (out .entry)) (now (out .exit)) (matrix 1 4 1 (now (lhs .entry)) (now (rhs .entry))) ⌝ }
 {
     report(galmuriec::matrix::row_times_column(lhs, rhs, out), refusal)
@@ -241,7 +242,7 @@ pub extern "C" fn galmuriec_sample_short_bfield_element(
     result: &mut u64,
     refusal: &mut [u64; 3],
 ) -> u64
-    ensures { λ r. ⌜ Gives (then (judged (asks.sample-short-bfield-element (length (now (randomness .entry))))) (gives (short ones (now (randomness .entry)) 0 ∷ []))) r (now (refusal .exit))
+    ensures { λ r. ⌜ Gives (tells (asks.sample-short-bfield-element (length (now (randomness .entry)))) (gives (short ones (now (randomness .entry)) 0 ∷ []))) r (now (refusal .exit))
         (now (result .entry)) (now (result .exit)) ⌝ }
 {
     deliver(
@@ -257,7 +258,7 @@ pub extern "C" fn galmuriec_sample_short(
     out: &mut [u64],
     refusal: &mut [u64; 3],
 ) -> u64
-    ensures { λ r. ⌜ Fills (judged (asks.sample-short (length (now (randomness .entry))) (length (now (out .entry))))) r
+    ensures { λ r. ⌜ Fills (asks.sample-short (length (now (randomness .entry))) (length (now (out .entry)))) r
         (now (refusal .exit)) (now (out .entry)) (now (out .exit)) (shorts ones 64 (now (randomness .entry))) ⌝ }
 {
     report(galmuriec::lanes::sample_short(randomness, out), refusal)
@@ -269,7 +270,7 @@ pub extern "C" fn galmuriec_sample_uniform(
     out: &mut [u64],
     refusal: &mut [u64; 3],
 ) -> u64
-    ensures { λ r. ⌜ Fills (judged (asks.sample-uniform (length (now (randomness .entry))) (length (now (out .entry))))) r
+    ensures { λ r. ⌜ Fills (asks.sample-uniform (length (now (randomness .entry))) (length (now (out .entry)))) r
         (now (refusal .exit)) (now (out .entry)) (now (out .exit)) (uniforms 64 (now (randomness .entry))) ⌝ }
 {
     report(galmuriec::lanes::sample_uniform(randomness, out), refusal)
@@ -277,7 +278,7 @@ pub extern "C" fn galmuriec_sample_uniform(
 
 #[no_mangle]
 pub extern "C" fn galmuriec_embed_msg(msg: &[u8], out: &mut [u64], refusal: &mut [u64; 3]) -> u64
-    ensures { λ r. ⌜ Fills (judged (asks.embed-msg (length (now (msg .entry))) (length (now (out .entry))))) r
+    ensures { λ r. ⌜ Fills (asks.embed-msg (length (now (msg .entry))) (length (now (out .entry)))) r
         (now (refusal .exit)) (now (out .entry)) (now (out .exit)) (embed (now (msg .entry))) ⌝ }
 {
     report(galmuriec::lanes::embed_msg(msg, out), refusal)
@@ -289,7 +290,7 @@ pub extern "C" fn galmuriec_extract_msg(
     out: &mut [u8],
     refusal: &mut [u64; 3],
 ) -> u64
-    ensures { λ r. ⌜ Fills (judged (asks.extract-msg (now (embedding .entry)) (length (now (out .entry))))) r
+    ensures { λ r. ⌜ Fills (asks.extract-msg (now (embedding .entry)) (length (now (out .entry)))) r
         (now (refusal .exit)) (now (out .entry)) (now (out .exit)) (extract (now (embedding .entry))) ⌝ }
 {
     report(galmuriec::lanes::extract_msg(embedding, out), refusal)
@@ -302,7 +303,7 @@ pub extern "C" fn galmuriec_shake256(
     output: &mut [u8],
     refusal: &mut [u64; 3],
 ) -> u64
-    ensures { λ r. ⌜ Fills (judged (asks.shake256 (length (now (message .entry))) (length (now (output .entry))))) r
+    ensures { λ r. ⌜ Fills (asks.shake256 (length (now (message .entry))) (length (now (output .entry)))) r
         (now (refusal .exit)) (now (output .entry)) (now (output .exit)) (shake256 (now (message .entry)) (length (now (output .entry)))) ⌝ }
 {
     report(galmuriec::hash::shake256(message, output), refusal)
@@ -314,7 +315,7 @@ pub extern "C" fn galmuriec_sha3_256(
     output: &mut [u8],
     refusal: &mut [u64; 3],
 ) -> u64
-    ensures { λ r. ⌜ Fills (judged (asks.sha3-256 (length (now (message .entry))) (length (now (output .entry))))) r
+    ensures { λ r. ⌜ Fills (asks.sha3-256 (length (now (message .entry))) (length (now (output .entry)))) r
         (now (refusal .exit)) (now (output .entry)) (now (output .exit)) (sha3-256 (now (message .entry))) ⌝ }
 {
     report(galmuriec::hash::sha3_256(message, output), refusal)
@@ -328,10 +329,10 @@ pub extern "C" fn galmuriec_keygen(
     public: &mut [u8],
     refusal: &mut [u64; 3],
 ) -> u64
-    ensures { λ r. ⌜ Fills (judged (asks.keygen (length (now (randomness .entry))) (length (now (secret .entry))) (length (now (public .entry))))) r
-        (now (refusal .exit)) (now (secret .entry)) (now (secret .exit)) (packets.keygen ones (now (randomness .entry)) .secret)
-        × Fills (judged (asks.keygen (length (now (randomness .entry))) (length (now (secret .entry))) (length (now (public .entry))))) r
-        (now (refusal .exit)) (now (public .entry)) (now (public .exit)) (public-bytes (packets.keygen ones (now (randomness .entry)) .public)) ⌝ }
+    ensures { λ r. ⌜ Leaves (tells (asks.keygen (length (now (randomness .entry))) (length (now (secret .entry))) (length (now (public .entry)))) fine) r (now (refusal .exit))
+        (into (now (secret .entry)) (packets.keygen ones (now (randomness .entry)) .secret)
+        ∷ into (now (public .entry)) (public-bytes (packets.keygen ones (now (randomness .entry)) .public)) ∷ [])
+        (now (secret .exit) ∷ now (public .exit) ∷ []) ⌝ }
 {
     report(galmuriec::kem::keygen(randomness, secret, public), refusal)
 }
@@ -344,10 +345,10 @@ pub extern "C" fn galmuriec_enc(
     ciphertext: &mut [u8],
     refusal: &mut [u64; 3],
 ) -> u64
-    ensures { λ r. ⌜ Fills (judged (asks.enc (now (public .entry)) (length (now (randomness .entry))) (length (now (shared .entry))) (length (now (ciphertext .entry))))) r
-        (now (refusal .exit)) (now (shared .entry)) (now (shared .exit)) (packets.enc ones (public-of (now (public .entry))) (now (randomness .entry)) .shared)
-        × Fills (judged (asks.enc (now (public .entry)) (length (now (randomness .entry))) (length (now (shared .entry))) (length (now (ciphertext .entry))))) r
-        (now (refusal .exit)) (now (ciphertext .entry)) (now (ciphertext .exit)) (bytes (packets.enc ones (public-of (now (public .entry))) (now (randomness .entry)) .ciphertext)) ⌝ }
+    ensures { λ r. ⌜ Leaves (tells (asks.enc (now (public .entry)) (length (now (randomness .entry))) (length (now (shared .entry))) (length (now (ciphertext .entry)))) fine) r (now (refusal .exit))
+        (into (now (shared .entry)) (packets.enc ones (public-of (now (public .entry))) (now (randomness .entry)) .shared)
+        ∷ into (now (ciphertext .entry)) (bytes (packets.enc ones (public-of (now (public .entry))) (now (randomness .entry)) .ciphertext)) ∷ [])
+        (now (shared .exit) ∷ now (ciphertext .exit) ∷ []) ⌝ }
 {
     report(
         galmuriec::kem::enc(public, randomness, shared, ciphertext),
@@ -364,10 +365,10 @@ pub extern "C" fn galmuriec_enc_numbers(
     ciphertext: &mut [u64],
     refusal: &mut [u64; 3],
 ) -> u64
-    ensures { λ r. ⌜ Fills (judged (asks.enc-numbers (now (public .entry)) (length (now (randomness .entry))) (length (now (shared .entry))) (length (now (ciphertext .entry))))) r
-        (now (refusal .exit)) (now (shared .entry)) (now (shared .exit)) (packets.enc ones (public-of (now (public .entry))) (now (randomness .entry)) .shared)
-        × Fills (judged (asks.enc-numbers (now (public .entry)) (length (now (randomness .entry))) (length (now (shared .entry))) (length (now (ciphertext .entry))))) r
-        (now (refusal .exit)) (now (ciphertext .entry)) (now (ciphertext .exit)) (packets.enc ones (public-of (now (public .entry))) (now (randomness .entry)) .ciphertext) ⌝ }
+    ensures { λ r. ⌜ Leaves (tells (asks.enc-numbers (now (public .entry)) (length (now (randomness .entry))) (length (now (shared .entry))) (length (now (ciphertext .entry)))) fine) r (now (refusal .exit))
+        (into (now (shared .entry)) (packets.enc ones (public-of (now (public .entry))) (now (randomness .entry)) .shared)
+        ∷ into (now (ciphertext .entry)) (packets.enc ones (public-of (now (public .entry))) (now (randomness .entry)) .ciphertext) ∷ [])
+        (now (shared .exit) ∷ now (ciphertext .exit) ∷ []) ⌝ }
 {
     report(
         galmuriec::kem::enc_numbers(public, randomness, shared, ciphertext),
@@ -382,9 +383,9 @@ pub extern "C" fn galmuriec_dec(
     shared: &mut [u8],
     refusal: &mut [u64; 3],
 ) -> u64
-    ensures { λ r. ⌜ Fills (then (judged (asks.dec (length (now (secret .entry))) (now (ciphertext .entry)) (length (now (shared .entry)))))
-        (opened-told (packets.dec ones (now (secret .entry)) (words (now (ciphertext .entry)))))) r
-        (now (refusal .exit)) (now (shared .entry)) (now (shared .exit)) (opened-key (packets.dec ones (now (secret .entry)) (words (now (ciphertext .entry))))) ⌝ }
+    ensures { λ r. ⌜ Leaves (tells (asks.dec (length (now (secret .entry))) (now (ciphertext .entry)) (length (now (shared .entry))))
+        (opened-told (packets.dec ones (now (secret .entry)) (words (now (ciphertext .entry)))))) r (now (refusal .exit))
+        (into (now (shared .entry)) (opened-key (packets.dec ones (now (secret .entry)) (words (now (ciphertext .entry))))) ∷ []) (now (shared .exit) ∷ []) ⌝ }
 {
     report(galmuriec::kem::dec(secret, ciphertext, shared), refusal)
 }
@@ -397,9 +398,9 @@ pub extern "C" fn galmuriec_dec_numbers(
     shared: &mut [u8],
     refusal: &mut [u64; 3],
 ) -> u64
-    ensures { λ r. ⌜ Fills (then (judged (asks.dec-numbers (length (now (secret .entry))) (now (ciphertext .entry)) (length (now (shared .entry)))))
-        (opened-told (packets.dec ones (now (secret .entry)) (now (ciphertext .entry))))) r
-        (now (refusal .exit)) (now (shared .entry)) (now (shared .exit)) (opened-key (packets.dec ones (now (secret .entry)) (now (ciphertext .entry)))) ⌝ }
+    ensures { λ r. ⌜ Leaves (tells (asks.dec-numbers (length (now (secret .entry))) (now (ciphertext .entry)) (length (now (shared .entry))))
+        (opened-told (packets.dec ones (now (secret .entry)) (now (ciphertext .entry))))) r (now (refusal .exit))
+        (into (now (shared .entry)) (opened-key (packets.dec ones (now (secret .entry)) (now (ciphertext .entry)))) ∷ []) (now (shared .exit) ∷ []) ⌝ }
 {
     report(
         galmuriec::kem::dec_numbers(secret, ciphertext, shared),
@@ -409,7 +410,7 @@ pub extern "C" fn galmuriec_dec_numbers(
 
 #[no_mangle]
 pub extern "C" fn galmuriec_clear(secret: &mut [u8], refusal: &mut [u64; 3]) -> u64
-    ensures { λ r. ⌜ Fills (judged (asks.clear (length (now (secret .entry))))) r (now (refusal .exit)) (now (secret .entry)) (now (secret .exit))
+    ensures { λ r. ⌜ Fills (asks.clear (length (now (secret .entry)))) r (now (refusal .exit)) (now (secret .entry)) (now (secret .exit))
         (zeros 64) ⌝ }
 {
     report(galmuriec::kem::clear(secret), refusal)

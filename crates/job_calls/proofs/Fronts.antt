@@ -1,4 +1,4 @@
--- What stands at the front of a buffer: how `write` puts it there, and how it is told. Assumes nothing.
+-- What stands at the front of a buffer: how `write` puts it there, and how it is told.
 use mathlib.Core.Bool.{Bool, true, false}
 use mathlib.Core.Path.{_≡_, refl, sym, ap, ap₂, _∙_, subst}
 use mathlib.Core.List.{List, [], _∷_, _++_, append-assoc, append-nil}
@@ -12,11 +12,13 @@ use borrow.Author.Tests.{le-leb, lt-leb}
 use Rattle.laws.proofs.Parts.{put, put-size}
 use Rattle.laws.specs.Lists.{tab, tabFrom}
 use Rattle.codec.specs.Layout.{bytes, with-word}
-use Rattle.judge.specs.Judgement.{Told, No, sign, gives, no, held, pick}
-use Rattle.judge.specs.Answers.{said, paper, Fills}
-use Rattle.judge.specs.declared.Answer.{Answer}
-use Rattle.judge.specs.declared.Answer.the-variants.{Done, Refused}
-use Rattle.judge.specs.declared.Refusal.{Refusal}
+use Rattle.laws.specs.Choices.{pick}
+use Rattle.refusals.specs.Arguments.{Asked}
+use Rattle.refusals.specs.Judgement.{Told, No, sign, gives, refuses}
+use Rattle.refusals.specs.Answers.{said, paper, Lent, left as left-of, tells, Call}
+use Rattle.refusals.specs.declared.Answer.{Answer}
+use Rattle.refusals.specs.declared.Answer.the-variants.{Done, Refused}
+use Rattle.refusals.specs.declared.Refusal.{Refusal}
 use Rattle.job_calls.specs.Jobs.{Writes, fitted, written, ten}
 
 -- two answers that a contract allows are the same, and so are the buffers
@@ -24,11 +26,11 @@ pub writes-one : (answer : List ℕ) (m n : ℕ) (old new new′ : List ℕ) →
 writes-one answer m n old new new′ v w = (v .count ∙ sym (w .count), v .buffer ∙ sym (w .buffer))
 
 pub fitted-yes : (answer old : List ℕ) → length answer ≤ length old → answer ++ drop (length answer) old ≡ fitted answer old
-unfolding fitted pick
+unfolding fitted
 fitted-yes answer old h = simp (le-leb _ _ h)
 
 pub fitted-no : (answer old : List ℕ) → length old < length answer → old ≡ fitted answer old
-unfolding fitted pick
+unfolding fitted
 fitted-no answer old h = simp (lt-leb _ _ h)
 
 -- ---- one byte and two parts behind it
@@ -78,12 +80,12 @@ left h p q old r = record { count = size h p q; buffer = fitted-no (h ∷ (p ++ 
 
 -- ---- what a call answered
 pub tells-done : (v : Answer) (out : List ℕ) (n : ℕ) (old new : List ℕ) → v ≡ Done → Writes (0 ∷ out) n old new → Writes (written (said v) out) n old new
-unfolding said written
+unfolding written
 tells-done v out n old new e w = rw e w
 
 pub tells-refused : (v : Answer) (r : Refusal) (out : List ℕ) (n : ℕ) (old new : List ℕ) → v ≡ Refused r → Writes (ten (paper r)) n old new
     → Writes (written (said v) out) n old new
-unfolding said written
+unfolding written
 tells-refused v r out n old new e w = rw e w
 
 -- a refusal's parts
@@ -92,17 +94,26 @@ unfolding ten bytes tab tabFrom
 ten-bytes n a i r place e f = ap (λ (s : List ℕ). n ∷ ((a ∷ []) ++ s)) f ∙ ap ten e
 
 -- what is given, where nothing is told against it, is what was filled
-pub told-two : (t : Told) (v : Answer) (old₁ new₁ r₁ old₂ new₂ r₂ : List ℕ) → Fills t v old₁ new₁ r₁ → Fills t v old₂ new₂ r₂ → written (said v) (new₁ ++ new₂) ≡ written t (r₁ ++ r₂)
-unfolding written held
-told-two (gives xs) v old₁ new₁ r₁ old₂ new₂ r₂ f g =
-    ap (λ (t : Told). written t (new₁ ++ new₂)) (f .answer) ∙ ap₂ (λ (s t : List ℕ). 0 ∷ (s ++ t)) (f .buffer) (g .buffer)
-told-two (no r) v old₁ new₁ r₁ old₂ new₂ r₂ f g = ap (λ (t : Told). written t (new₁ ++ new₂)) (f .answer)
+two-filled : (t u : Told) (b b′ : Lent) (new new′ : List ℕ) → u ≡ t → new ∷ new′ ∷ [] ≡ left-of t (b ∷ b′ ∷ []) → written u (new ++ new′) ≡ written t (b .result ++ b′ .result)
+unfolding written
+two-filled (gives xs) u b b′ new new′ e f =
+    ap (λ (t : Told). written t (new ++ new′)) e ∙ ap (λ (l : List (List ℕ)). 0 ∷ (getD l 0 [] ++ getD l 1 [])) f
+two-filled (refuses r) u b b′ new new′ e f = ap (λ (t : Told). written t (new ++ new′)) e
+
+pub told-two : (args : List Asked) (given u : Told) (b b′ : Lent) (new new′ : List ℕ) → Call args given u (b ∷ b′ ∷ []) (new ∷ new′ ∷ [])
+    → written u (new ++ new′) ≡ written (tells args given) (b .result ++ b′ .result)
+told-two args given u b b′ new new′ c = two-filled (tells args given) u b b′ new new′ (c .answered) (c .buffers)
 
 pub writes-as : (a b : List ℕ) (n : ℕ) (old new : List ℕ) → a ≡ b → Writes a n old new → Writes b n old new
 writes-as a b n old new e w = subst (λ (l : List ℕ). Writes l n old new) e w
 
 -- the same where one buffer was filled
-pub told-single : (t : Told) (v : Answer) (old new r : List ℕ) → Fills t v old new r → written (said v) (new ++ []) ≡ written t r
-unfolding written held
-told-single (gives xs) v old new r f = ap (λ (t : Told). written t (new ++ [])) (f .answer) ∙ ap (λ (s : List ℕ). 0 ∷ s) (append-nil new ∙ f .buffer)
-told-single (no q) v old new r f = ap (λ (t : Told). written t (new ++ [])) (f .answer)
+one-filled : (t u : Told) (b : Lent) (new : List ℕ) → u ≡ t → new ∷ [] ≡ left-of t (b ∷ []) → written u (new ++ []) ≡ written t (b .result)
+unfolding written
+one-filled (gives xs) u b new e f =
+    ap (λ (t : Told). written t (new ++ [])) e ∙ ap (λ (s : List ℕ). 0 ∷ s) (append-nil new ∙ ap (λ (l : List (List ℕ)). getD l 0 []) f)
+one-filled (refuses r) u b new e f = ap (λ (t : Told). written t (new ++ [])) e
+
+pub told-single : (args : List Asked) (given u : Told) (b : Lent) (new : List ℕ) → Call args given u (b ∷ []) (new ∷ [])
+    → written u (new ++ []) ≡ written (tells args given) (b .result)
+told-single args given u b new c = one-filled (tells args given) u b new (c .answered) (c .buffers)

@@ -1,4 +1,4 @@
--- How long an answer is. Assumes nothing.
+-- How long an answer is.
 use mathlib.Core.Bool.{Bool, true, false}
 use mathlib.Core.Path.{_≡_, ap, _∙_}
 use mathlib.Core.List.{List, [], _∷_, _++_}
@@ -8,11 +8,13 @@ use lib.Dec.{lit<}
 use lib.ListN.{length, length-append}
 use Rattle.codec.specs.Layout.{words, bytes}
 use Rattle.codec.proofs.Layouts.{length-bytes}
-use Rattle.judge.specs.Judgement.{Told, No, sign, gives, no, pick}
+use Rattle.laws.specs.Choices.{pick}
+use Rattle.laws.specs.Lists.{part}
+use Rattle.refusals.specs.Judgement.{Told, No, sign, gives, refuses}
 use Rattle.hash.specs.Fips202.{sha3-256}
 use Rattle.hash.proofs.Outputs.{length-sha3-256}
 use Rattle.lanes.specs.Samplers.{ones}
-use Rattle.packets.specs.Packets.{Bytes, part, key-if, same, sealing, extracted, payload, secret-key, public-key, PublicKey, keygen, enc, dec}
+use Rattle.packets.specs.Packets.{Bytes, key-if, same, sealing, extracted, payload, secret-key, public-key, PublicKey, keygen, enc, dec}
 use Rattle.packets.specs.Layout.{public-bytes, public-of}
 use Rattle.packets.proofs.Sizes.{part-below, public-canonical}
 use Rattle.packets.proofs.Delivery.{secret-key-bytes, ciphertext-canonical}
@@ -27,7 +29,7 @@ ten-size r = ap (λ (n : ℕ). suc (suc n)) (length-bytes (r .place ∷ []))
 written-size : (t : Told) (out : List ℕ) (n : ℕ) → 9 ≤ n → length out ≤ n → length (written t out) ≤ suc n
 unfolding written
 written-size (gives xs) out n h e = omega arith
-written-size (no r) out n h e = omega (arith, ten-size r)
+written-size (refuses r) out n h e = omega (arith, ten-size r)
 
 keys-size : (r : List ℕ) → length (keygen ones r .secret ++ public-bytes (keygen ones r .public)) ≡ 2144
 unfolding keygen public-key public-bytes
@@ -65,7 +67,6 @@ unfolding dec-answer
 dec-size sk ct = written-size _ _ 2592 (omega arith) (omega (arith, opened-size sk (words ct)))
 
 pick-size : (b : Bool) (s t : List ℕ) (n : ℕ) → length s ≤ n → length t ≤ n → length (pick b s t) ≤ n
-unfolding pick
 pick-size true s t n h k = h
 pick-size false s t n h k = k
 

@@ -1,4 +1,4 @@
--- Document 01, "The job program": what is answered to the bytes of one job, and what a lent buffer then holds. Assumes nothing.
+-- Document 01, "The job program": what is answered to the bytes of one job, and what a lent buffer then holds.
 use mathlib.Core.Bool.{Bool, true, false}
 use mathlib.Core.Path.{_≡_}
 use mathlib.Core.List.{List, [], _∷_, _++_}
@@ -6,12 +6,15 @@ use Prim.Native.Nat.{ℕ}
 use lib.Dec.{eqb, leb}
 use lib.ListN.{length, getD, take, drop}
 use Rattle.codec.specs.Layout.{words, bytes}
-use Rattle.judge.specs.Judgement.{Told, No, sign, gives, no, then, pick, judged}
+use Rattle.laws.specs.Choices.{pick}
+use Rattle.laws.specs.Lists.{part}
+use Rattle.refusals.specs.Judgement.{Told, No, sign, gives, refuses, fine}
+use Rattle.refusals.specs.Answers.{tells}
 use Rattle.lanes.specs.Samplers.{ones}
-use Rattle.packets.specs.Packets.{part, KeyPair, Packet, Opened}
+use Rattle.packets.specs.Packets.{KeyPair, Packet, Opened}
 use Rattle.packets.specs.Packets as packets
 use Rattle.packets.specs.Layout.{public-bytes, public-of}
-use Rattle.calls.specs.Arguments as asks
+use Rattle.refusals.specs.Asks as asks
 use Rattle.kem_calls.specs.Opened.{opened-told, opened-key}
 
 -- a refusal: number, argument, place as eight little-endian bytes
@@ -21,26 +24,26 @@ ten r = r .number ∷ ((r .argument ∷ []) ++ bytes (r .place ∷ []))
 -- byte 0 and then what is given, or the refusal
 unfoldable pub written : Told → List ℕ → List ℕ
 written (gives xs) out = 0 ∷ out
-written (no r) out = ten r
+written (refuses r) out = ten r
 
 -- ---- the answers of the three kinds
 -- of randomness: secret and public key
 unfoldable pub keygen-answer : List ℕ → List ℕ
 keygen-answer r =
     let k = packets.keygen ones r in
-    written (judged (asks.keygen (length r) 64 2080)) (k .secret ++ public-bytes (k .public))
+    written (tells (asks.keygen (length r) 64 2080) fine) (k .secret ++ public-bytes (k .public))
 
 -- of a public key and randomness: shared key and ciphertext
 unfoldable pub enc-answer : List ℕ → List ℕ → List ℕ
 enc-answer pk r =
     let e = packets.enc ones (public-of pk) r in
-    written (judged (asks.enc pk (length r) 32 2560)) (e .shared ++ bytes (e .ciphertext))
+    written (tells (asks.enc pk (length r) 32 2560) fine) (e .shared ++ bytes (e .ciphertext))
 
 -- of a secret key and a ciphertext: the shared key
 unfoldable pub dec-answer : List ℕ → List ℕ → List ℕ
 dec-answer sk ct =
     let o = packets.dec ones sk (words ct) in
-    written (then (judged (asks.dec (length sk) ct 32)) (opened-told o)) (opened-key o)
+    written (tells (asks.dec (length sk) ct 32) (opened-told o)) (opened-key o)
 
 -- ---- the job
 -- n bytes, the first of them t

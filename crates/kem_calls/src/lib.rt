@@ -3,19 +3,21 @@
 ghost use mathlib.Core.Path.{_≡_};
 ghost use mathlib.Core.List.{[], _∷_};
 ghost use lib.ListN.{length};
-ghost use Rattle.judge.specs.Judgement.{judged, then, room, numbers, packed};
-ghost use Rattle.judge.specs.Answers.{said, Fills};
+ghost use Rattle.laws.specs.Lists.{zeros};
+ghost use Rattle.refusals.specs.Arguments.{room, packed};
+ghost use Rattle.refusals.specs.Judgement.{judged};
+ghost use Rattle.refusals.specs.Answers.{said, into, Call, Fills, FillsTwo};
+ghost use Rattle.refusals.specs.Asks as asks;
 ghost use Rattle.codec.specs.Layout.{words, bytes};
 ghost use Rattle.lanes.specs.Samplers.{ones};
 ghost use Rattle.packets.specs.Packets as packets;
 ghost use Rattle.packets.specs.Layout.{public-bytes, public-of};
-ghost use Rattle.calls.specs.Arguments.{keygen, enc, enc-numbers, dec, dec-numbers, clear};
-ghost use Rattle.kem_calls.specs.Opened.{opened-told, opened-key, zeros};
-use judge::Answer;
-use judge::Refusal;
+ghost use Rattle.kem_calls.specs.Opened.{opened-told, opened-key};
+use refusals::Answer;
+use refusals::Refusal;
 
 fn judge_keygen(randomness: usize, secret: usize, public: usize) -> Answer
-    ensures { λ r. ⌜ said r ≡ judged (keygen randomness secret public) ⌝ }
+    ensures { λ r. ⌜ said r ≡ judged (asks.keygen randomness secret public) ⌝ }
 {
     Answer::Done
         .sized(1, randomness == 32)
@@ -35,7 +37,7 @@ fn judge_enc(public: &[u8], randomness: usize, shared: usize, ciphertext: usize,
 }
 
 fn judge_dec(secret: usize, ciphertext: &[u8], shared: usize) -> Answer
-    ensures { λ r. ⌜ said r ≡ judged (dec secret (now (ciphertext .entry)) shared) ⌝ }
+    ensures { λ r. ⌜ said r ≡ judged (asks.dec secret (now (ciphertext .entry)) shared) ⌝ }
 {
     Answer::Done
         .sized(1, secret == 64)
@@ -45,7 +47,7 @@ fn judge_dec(secret: usize, ciphertext: &[u8], shared: usize) -> Answer
 }
 
 fn judge_dec_numbers(secret: usize, ciphertext: &[u64], shared: usize) -> Answer
-    ensures { λ r. ⌜ said r ≡ judged (dec-numbers secret (now (ciphertext .entry)) shared) ⌝ }
+    ensures { λ r. ⌜ said r ≡ judged (asks.dec-numbers secret (now (ciphertext .entry)) shared) ⌝ }
 {
     Answer::Done
         .sized(1, secret == 64)
@@ -55,9 +57,8 @@ fn judge_dec_numbers(secret: usize, ciphertext: &[u64], shared: usize) -> Answer
 }
 
 pub fn keygen(randomness: &[u8], secret: &mut [u8], public: &mut [u8]) -> Answer
-    ensures { λ r. ⌜ Fills (judged (keygen (length (now (randomness .entry))) (length (now (secret .entry))) (length (now (public .entry))))) r
+    ensures { λ r. ⌜ FillsTwo (asks.keygen (length (now (randomness .entry))) (length (now (secret .entry))) (length (now (public .entry)))) r
         (now (secret .entry)) (now (secret .exit)) (packets.keygen ones (now (randomness .entry)) .secret)
-        × Fills (judged (keygen (length (now (randomness .entry))) (length (now (secret .entry))) (length (now (public .entry))))) r
         (now (public .entry)) (now (public .exit)) (public-bytes (packets.keygen ones (now (randomness .entry)) .public)) ⌝ }
 {
     let v = judge_keygen(randomness.len(), secret.len(), public.len());
@@ -75,9 +76,9 @@ pub fn enc_numbers(
     shared: &mut [u8],
     ciphertext: &mut [u64],
 ) -> Answer
-    ensures { λ r. ⌜ Fills (judged (enc-numbers (now (public .entry)) (length (now (randomness .entry))) (length (now (shared .entry))) (length (now (ciphertext .entry))))) r
+    ensures { λ r. ⌜ FillsTwo
+        (asks.enc-numbers (now (public .entry)) (length (now (randomness .entry))) (length (now (shared .entry))) (length (now (ciphertext .entry)))) r
         (now (shared .entry)) (now (shared .exit)) (packets.enc ones (public-of (now (public .entry))) (now (randomness .entry)) .shared)
-        × Fills (judged (enc-numbers (now (public .entry)) (length (now (randomness .entry))) (length (now (shared .entry))) (length (now (ciphertext .entry))))) r
         (now (ciphertext .entry)) (now (ciphertext .exit)) (packets.enc ones (public-of (now (public .entry))) (now (randomness .entry)) .ciphertext) ⌝ }
 {
     let v = judge_enc(
@@ -96,9 +97,9 @@ pub fn enc_numbers(
 
 // With the ciphertext as 320 numbers.
 pub fn dec_numbers(secret: &[u8], ciphertext: &[u64], shared: &mut [u8]) -> Answer
-    ensures { λ r. ⌜ Fills (then (judged (dec-numbers (length (now (secret .entry))) (now (ciphertext .entry)) (length (now (shared .entry)))))
-        (opened-told (packets.dec ones (now (secret .entry)) (now (ciphertext .entry))))) r
-        (now (shared .entry)) (now (shared .exit)) (opened-key (packets.dec ones (now (secret .entry)) (now (ciphertext .entry)))) ⌝ }
+    ensures { λ r. ⌜ Call (asks.dec-numbers (length (now (secret .entry))) (now (ciphertext .entry)) (length (now (shared .entry))))
+        (opened-told (packets.dec ones (now (secret .entry)) (now (ciphertext .entry)))) (said r)
+        (into (now (shared .entry)) (opened-key (packets.dec ones (now (secret .entry)) (now (ciphertext .entry)))) ∷ []) (now (shared .exit) ∷ []) ⌝ }
 {
     let v = judge_dec_numbers(secret.len(), ciphertext, shared.len());
     let Answer::Done = v else {
@@ -112,10 +113,11 @@ pub fn dec_numbers(secret: &[u8], ciphertext: &[u64], shared: &mut [u8]) -> Answ
 }
 
 pub fn enc(public: &[u8], randomness: &[u8], shared: &mut [u8], ciphertext: &mut [u8]) -> Answer
-    ensures { λ r. ⌜ Fills (judged (enc (now (public .entry)) (length (now (randomness .entry))) (length (now (shared .entry))) (length (now (ciphertext .entry))))) r
+    ensures { λ r. ⌜ FillsTwo
+        (asks.enc (now (public .entry)) (length (now (randomness .entry))) (length (now (shared .entry))) (length (now (ciphertext .entry)))) r
         (now (shared .entry)) (now (shared .exit)) (packets.enc ones (public-of (now (public .entry))) (now (randomness .entry)) .shared)
-        × Fills (judged (enc (now (public .entry)) (length (now (randomness .entry))) (length (now (shared .entry))) (length (now (ciphertext .entry))))) r
-        (now (ciphertext .entry)) (now (ciphertext .exit)) (bytes (packets.enc ones (public-of (now (public .entry))) (now (randomness .entry)) .ciphertext)) ⌝ }
+        (now (ciphertext .entry)) (now (ciphertext .exit))
+        (bytes (packets.enc ones (public-of (now (public .entry))) (now (randomness .entry)) .ciphertext)) ⌝ }
 {
     let v = judge_enc(
         public,
@@ -134,9 +136,9 @@ pub fn enc(public: &[u8], randomness: &[u8], shared: &mut [u8], ciphertext: &mut
 }
 
 pub fn dec(secret: &[u8], ciphertext: &[u8], shared: &mut [u8]) -> Answer
-    ensures { λ r. ⌜ Fills (then (judged (dec (length (now (secret .entry))) (now (ciphertext .entry)) (length (now (shared .entry)))))
-        (opened-told (packets.dec ones (now (secret .entry)) (words (now (ciphertext .entry)))))) r
-        (now (shared .entry)) (now (shared .exit)) (opened-key (packets.dec ones (now (secret .entry)) (words (now (ciphertext .entry))))) ⌝ }
+    ensures { λ r. ⌜ Call (asks.dec (length (now (secret .entry))) (now (ciphertext .entry)) (length (now (shared .entry))))
+        (opened-told (packets.dec ones (now (secret .entry)) (words (now (ciphertext .entry))))) (said r)
+        (into (now (shared .entry)) (opened-key (packets.dec ones (now (secret .entry)) (words (now (ciphertext .entry))))) ∷ []) (now (shared .exit) ∷ []) ⌝ }
 {
     let v = judge_dec(secret.len(), ciphertext, shared.len());
     let Answer::Done = v else {
@@ -162,9 +164,9 @@ fn wipe(secret: &mut [u8])
 
 // Clears a secret key: 64 zeros; copies held elsewhere are not spoken of.
 pub fn clear(secret: &mut [u8]) -> Answer
-    ensures { λ r. ⌜ Fills (judged (clear (length (now (secret .entry))))) r (now (secret .entry)) (now (secret .exit)) (zeros 64) ⌝ }
+    ensures { λ r. ⌜ Fills (asks.clear (length (now (secret .entry)))) r (now (secret .entry)) (now (secret .exit)) (zeros 64) ⌝ }
 {
-    let v = calls::judge_bytes(secret.len(), 64);
+    let v = refusals::judge_bytes(secret.len(), 64);
     let Answer::Done = v else {
         return v;
     };

@@ -1,11 +1,11 @@
--- `galmuriec_shake256` reports the call's answer. Assumes nothing.
+-- `galmuriec_shake256` reports the call's answer.
 use borrow.Author.Needs.{needs}
-use Rattle.galmuriec_c.proofs.Ends.{fills}
+use Rattle.galmuriec_c.proofs.Ends.{leaves}
 use Rattle.galmuriec_c.proofs.galmuriec_shake256.Statement.{statement}
 use Rattle.galmuriec_c.proofs.galmuriec_shake256.Tie as tie
 
 returns : tie.Need-returns
-returns c = fills _ _ _ _ _ _ _ (c .before .before .before .before .shake256 .ensures) (c .report .ensures)
+returns c = leaves _ _ _ _ _ _ _ (c .before .before .before .before .shake256 .ensures) (c .report .ensures)
 
 pub galmuriec-shake256-spec : {M : Type 1} → statement M
 galmuriec-shake256-spec = tie.close (tie.spec (λ c κs. search needs) (λ c κs. search needs) (λ c. search needs) returns)

@@ -1,4 +1,4 @@
--- `report` writes each answer as the boundary says. Assumes nothing.
+-- `report` writes each answer as the boundary says.
 use borrow.Author.Needs.{needs}
 use Rattle.galmuriec_c.proofs.Ends.{reports-done, reports-no}
 use Rattle.galmuriec_c.proofs.report.Statement.{statement}

@@ -1,7 +1,6 @@
--- `job` has one answer for each kind, and number 5 for all else. Assumes nothing.
+-- `job` has one answer for each kind, and number 5 for all else.
 use borrow.Author.Needs.{needs}
 use native.Mathlib.Omega.{arith}
-use Rattle.judge.specs.Answers.{paper}
 use Rattle.job_calls.proofs.Choices.{job-size, job-1, job-2, job-3, no-job}
 use Rattle.job_calls.proofs.Fronts.{writes-as}
 use Rattle.job_calls.proofs.job.Statement.{statement}
@@ -42,7 +41,6 @@ returns-3 c =
     (c .before .before .dec-job .ensures)
 
 returns-4 : tie.Need-returns-4
-unfolding paper
 returns-4 c =
     let l = c .before .before .before .before in
     let k = l .before .before in

@@ -1,4 +1,4 @@
--- `refuse` writes number, argument and place. Assumes nothing.
+-- `refuse` writes number, argument and place.
 use borrow.Author.Needs.{needs}
 use Rattle.job_calls.proofs.Fronts.{ten-bytes, writes-as}
 use Rattle.job_calls.proofs.refuse.Statement.{statement}

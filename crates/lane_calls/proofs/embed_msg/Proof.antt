@@ -1,18 +1,14 @@
--- `embed_msg` answers as it is judged, and fills the buffer where nothing is wrong. Assumes nothing.
+-- `embed_msg` answers as it is judged, and fills the buffer where nothing is wrong.
 use borrow.Author.Needs.{needs}
-use Rattle.judge.proofs.Calls.{done-fine, fills-no}
-use Rattle.calls.proofs.Shapes.{sampling-good, fills-done}
+use Rattle.refusals.proofs.Calls.{as-asked, handed-back, fills-done}
 use Rattle.lane_calls.proofs.embed_msg.Statement.{statement}
 use Rattle.lane_calls.proofs.embed_msg.Tie as tie
 
-returns : tie.Need-returns
-returns c = fills-no _ _ _ _ _ (c .enum-told2 .given .1) (c .before .before .judge-sampling .ensures)
-
 embed-msg-requires : tie.Need-embed-msg-requires
-embed-msg-requires c κs = sampling-good _ _ _ _ (done-fine _ _ (c .before .enum-told .given .1) (c .before .before .before .judge-sampling .ensures))
-
-returns-2 : tie.Need-returns-2
-returns-2 c = fills-done _ _ _ _ _ (c .before .before .before .before .enum-told .given .1) (c .before .before .before .before .before .before .judge-sampling .ensures) (c .before .before .embed-msg .ensures)
+embed-msg-requires c κs =
+    let good = as-asked _ _ (c .before .enum-told .given .1) (c .before .before .before .judge-sampling .ensures) in
+    search needs
 
 pub embed-msg-spec : {M : Type 1} → statement M
-embed-msg-spec = tie.close (tie.spec (λ c κs. search needs) (λ c. search needs) (λ c. search needs) returns embed-msg-requires (λ c. search needs) returns-2)
+embed-msg-spec =
+    tie.close (tie.spec (λ c κs. search needs) (λ c. search needs) (λ c. search needs) (λ c. search handed-back) embed-msg-requires (λ c. search needs) (λ c. search fills-done))

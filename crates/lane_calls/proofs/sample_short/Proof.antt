@@ -1,18 +1,14 @@
--- `sample_short` answers as it is judged, and fills the buffer where nothing is wrong. Assumes nothing.
+-- `sample_short` answers as it is judged, and fills the buffer where nothing is wrong.
 use borrow.Author.Needs.{needs}
-use Rattle.judge.proofs.Calls.{done-fine, fills-no}
-use Rattle.calls.proofs.Shapes.{sampling-good, fills-done}
+use Rattle.refusals.proofs.Calls.{as-asked, handed-back, fills-done}
 use Rattle.lane_calls.proofs.sample_short.Statement.{statement}
 use Rattle.lane_calls.proofs.sample_short.Tie as tie
 
-returns : tie.Need-returns
-returns c = fills-no _ _ _ _ _ (c .enum-told2 .given .1) (c .before .before .judge-sampling .ensures)
-
 sample-short-requires : tie.Need-sample-short-requires
-sample-short-requires c κs = sampling-good _ _ _ _ (done-fine _ _ (c .before .enum-told .given .1) (c .before .before .before .judge-sampling .ensures))
-
-returns-2 : tie.Need-returns-2
-returns-2 c = fills-done _ _ _ _ _ (c .before .before .before .before .enum-told .given .1) (c .before .before .before .before .before .before .judge-sampling .ensures) (c .before .before .sample-short .ensures)
+sample-short-requires c κs =
+    let good = as-asked _ _ (c .before .enum-told .given .1) (c .before .before .before .judge-sampling .ensures) in
+    search needs
 
 pub sample-short-spec : {M : Type 1} → statement M
-sample-short-spec = tie.close (tie.spec (λ c κs. search needs) (λ c. search needs) (λ c. search needs) returns sample-short-requires (λ c. search needs) returns-2)
+sample-short-spec =
+    tie.close (tie.spec (λ c κs. search needs) (λ c. search needs) (λ c. search needs) (λ c. search handed-back) sample-short-requires (λ c. search needs) (λ c. search fills-done))

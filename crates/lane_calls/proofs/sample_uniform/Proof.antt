@@ -1,18 +1,14 @@
--- `sample_uniform` answers as it is judged, and fills the buffer where nothing is wrong. Assumes nothing.
+-- `sample_uniform` answers as it is judged, and fills the buffer where nothing is wrong.
 use borrow.Author.Needs.{needs}
-use Rattle.judge.proofs.Calls.{done-fine, fills-no}
-use Rattle.calls.proofs.Shapes.{sampling-good, fills-done}
+use Rattle.refusals.proofs.Calls.{as-asked, handed-back, fills-done}
 use Rattle.lane_calls.proofs.sample_uniform.Statement.{statement}
 use Rattle.lane_calls.proofs.sample_uniform.Tie as tie
 
-returns : tie.Need-returns
-returns c = fills-no _ _ _ _ _ (c .enum-told2 .given .1) (c .before .before .judge-sampling .ensures)
-
 sample-uniform-requires : tie.Need-sample-uniform-requires
-sample-uniform-requires c κs = sampling-good _ _ _ _ (done-fine _ _ (c .before .enum-told .given .1) (c .before .before .before .judge-sampling .ensures))
-
-returns-2 : tie.Need-returns-2
-returns-2 c = fills-done _ _ _ _ _ (c .before .before .before .before .enum-told .given .1) (c .before .before .before .before .before .before .judge-sampling .ensures) (c .before .before .sample-uniform .ensures)
+sample-uniform-requires c κs =
+    let good = as-asked _ _ (c .before .enum-told .given .1) (c .before .before .before .judge-sampling .ensures) in
+    search needs
 
 pub sample-uniform-spec : {M : Type 1} → statement M
-sample-uniform-spec = tie.close (tie.spec (λ c κs. search needs) (λ c. search needs) (λ c. search needs) returns sample-uniform-requires (λ c. search needs) returns-2)
+sample-uniform-spec =
+    tie.close (tie.spec (λ c κs. search needs) (λ c. search needs) (λ c. search needs) (λ c. search handed-back) sample-uniform-requires (λ c. search needs) (λ c. search fills-done))

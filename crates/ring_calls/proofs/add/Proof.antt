@@ -1,18 +1,14 @@
--- `add` answers as it is judged, and fills the buffer where nothing is wrong. Assumes nothing.
+-- `add` answers as it is judged, and fills the buffer where nothing is wrong.
 use borrow.Author.Needs.{needs}
-use Rattle.judge.proofs.Calls.{done-fine, fills-no}
-use Rattle.calls.proofs.Shapes.{operands-good, fills-done}
+use Rattle.refusals.proofs.Calls.{as-asked, handed-back, fills-done}
 use Rattle.ring_calls.proofs.add.Statement.{statement}
 use Rattle.ring_calls.proofs.add.Tie as tie
 
-returns : tie.Need-returns
-returns c = fills-no _ _ _ _ _ (c .enum-told2 .given .1) (c .before .before .judge-operands .ensures)
-
 add-requires : tie.Need-add-requires
-add-requires c κs = operands-good _ _ _ _ _ _ (done-fine _ _ (c .before .enum-told .given .1) (c .before .before .before .judge-operands .ensures))
-
-returns-2 : tie.Need-returns-2
-returns-2 c = fills-done _ _ _ _ _ (c .before .before .before .before .enum-told .given .1) (c .before .before .before .before .before .before .judge-operands .ensures) (c .before .before .add .ensures)
+add-requires c κs =
+    let good = as-asked _ _ (c .before .enum-told .given .1) (c .before .before .before .judge-operands .ensures) in
+    search needs
 
 pub add-spec : {M : Type 1} → statement M
-add-spec = tie.close (tie.spec (λ c κs. search needs) (λ c. search needs) (λ c. search needs) returns add-requires (λ c. search needs) returns-2)
+add-spec =
+    tie.close (tie.spec (λ c κs. search needs) (λ c. search needs) (λ c. search needs) (λ c. search handed-back) add-requires (λ c. search needs) (λ c. search fills-done))

@@ -1,18 +1,14 @@
--- `matrix_times_column` answers as it is judged, and fills the buffer where nothing is wrong. Assumes nothing.
+-- `matrix_times_column` answers as it is judged, and fills the buffer where nothing is wrong.
 use borrow.Author.Needs.{needs}
-use Rattle.judge.proofs.Calls.{done-fine, fills-no}
-use Rattle.calls.proofs.Shapes.{operands-good, fills-done}
+use Rattle.refusals.proofs.Calls.{as-asked, handed-back, fills-done}
 use Rattle.ring_calls.proofs.matrix_times_column.Statement.{statement}
 use Rattle.ring_calls.proofs.matrix_times_column.Tie as tie
 
-returns : tie.Need-returns
-returns c = fills-no _ _ _ _ _ (c .enum-told2 .given .1) (c .before .before .judge-operands .ensures)
-
 matrix-times-column-requires : tie.Need-matrix-times-column-requires
-matrix-times-column-requires c κs = operands-good _ _ _ _ _ _ (done-fine _ _ (c .before .enum-told .given .1) (c .before .before .before .judge-operands .ensures))
-
-returns-2 : tie.Need-returns-2
-returns-2 c = fills-done _ _ _ _ _ (c .before .before .before .before .enum-told .given .1) (c .before .before .before .before .before .before .judge-operands .ensures) (c .before .before .matrix-times-column .ensures)
+matrix-times-column-requires c κs =
+    let good = as-asked _ _ (c .before .enum-told .given .1) (c .before .before .before .judge-operands .ensures) in
+    search needs
 
 pub matrix-times-column-spec : {M : Type 1} → statement M
-matrix-times-column-spec = tie.close (tie.spec (λ c κs. search needs) (λ c. search needs) (λ c. search needs) returns matrix-times-column-requires (λ c. search needs) returns-2)
+matrix-times-column-spec =
+    tie.close (tie.spec (λ c κs. search needs) (λ c. search needs) (λ c. search needs) (λ c. search handed-back) matrix-times-column-requires (λ c. search needs) (λ c. search fills-done))

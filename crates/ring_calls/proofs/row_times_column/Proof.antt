@@ -1,18 +1,14 @@
--- `row_times_column` answers as it is judged, and fills the buffer where nothing is wrong. Assumes nothing.
+-- `row_times_column` answers as it is judged, and fills the buffer where nothing is wrong.
 use borrow.Author.Needs.{needs}
-use Rattle.judge.proofs.Calls.{done-fine, fills-no}
-use Rattle.calls.proofs.Shapes.{operands-good, fills-done}
+use Rattle.refusals.proofs.Calls.{as-asked, handed-back, fills-done}
 use Rattle.ring_calls.proofs.row_times_column.Statement.{statement}
 use Rattle.ring_calls.proofs.row_times_column.Tie as tie
 
-returns : tie.Need-returns
-returns c = fills-no _ _ _ _ _ (c .enum-told2 .given .1) (c .before .before .judge-operands .ensures)
-
 row-times-column-requires : tie.Need-row-times-column-requires
-row-times-column-requires c κs = operands-good _ _ _ _ _ _ (done-fine _ _ (c .before .enum-told .given .1) (c .before .before .before .judge-operands .ensures))
-
-returns-2 : tie.Need-returns-2
-returns-2 c = fills-done _ _ _ _ _ (c .before .before .before .before .enum-told .given .1) (c .before .before .before .before .before .before .judge-operands .ensures) (c .before .before .row-times-column .ensures)
+row-times-column-requires c κs =
+    let good = as-asked _ _ (c .before .enum-told .given .1) (c .before .before .before .judge-operands .ensures) in
+    search needs
 
 pub row-times-column-spec : {M : Type 1} → statement M
-row-times-column-spec = tie.close (tie.spec (λ c κs. search needs) (λ c. search needs) (λ c. search needs) returns row-times-column-requires (λ c. search needs) returns-2)
+row-times-column-spec =
+    tie.close (tie.spec (λ c κs. search needs) (λ c. search needs) (λ c. search needs) (λ c. search handed-back) row-times-column-requires (λ c. search needs) (λ c. search fills-done))

@@ -1,3 +1,0 @@
--- Laws of the public calls' shapes.
-pub mod Shapes
-pub mod Inverses

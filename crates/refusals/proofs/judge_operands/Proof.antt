@@ -1,0 +1,12 @@
+-- `judge_operands` judges two slices of coefficients and a buffer as the document does: its steps are those of `judged`.
+use borrow.Author.Needs.{needs}
+use Rattle.refusals.specs.Judgement.{judged}
+use Rattle.refusals.proofs.judge_operands.Statement.{statement}
+use Rattle.refusals.proofs.judge_operands.Tie as tie
+
+returns : tie.Need-returns
+unfolding judged
+returns c = rw (c .numbers2 .ensures, c .before .numbers .ensures, c .before .before .sized3 .ensures, c .before .before .before .sized2 .ensures, c .before .before .before .before .sized .ensures)
+
+pub judge-operands-spec : {M : Type 1} → statement M
+judge-operands-spec = tie.close (tie.spec (λ c κs. search needs) (λ c κs. search needs) (λ c κs. search needs) (λ c κs. search needs) (λ c κs. search needs) returns)

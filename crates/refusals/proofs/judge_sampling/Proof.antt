@@ -1,0 +1,12 @@
+-- `judge_sampling` judges bytes and a buffer as the document does: its steps are those of `judged`.
+use borrow.Author.Needs.{needs}
+use Rattle.refusals.specs.Judgement.{judged}
+use Rattle.refusals.proofs.judge_sampling.Statement.{statement}
+use Rattle.refusals.proofs.judge_sampling.Tie as tie
+
+returns : tie.Need-returns
+unfolding judged
+returns c = rw (c .sized2 .ensures, c .before .sized .ensures)
+
+pub judge-sampling-spec : {M : Type 1} → statement M
+judge-sampling-spec = tie.close (tie.spec (λ c κs. search needs) (λ c κs. search needs) returns)
