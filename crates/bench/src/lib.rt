@@ -10,9 +10,8 @@ ghost use Rattle.ring.specs.Transform.{transform, untransform};
 ghost use Rattle.ring.specs.Elements.{product};
 ghost use Rattle.ring.specs.Matrices.{transforms, matrix};
 ghost use Rattle.lanes.specs.Samplers.{ones};
-ghost use Rattle.packets.specs.Packets.{G, keygen, enc, dec};
+ghost use Rattle.packets.specs.Packets.{G, keygen, enc, opens, key-or, dec};
 ghost use Rattle.packets.specs.Layout.{public-bytes, public-of};
-ghost use Rattle.seal.specs.Opening.{opens, shared-key};
 
 #[no_mangle]
 pub extern "C" fn bench_permute(a: &mut [u64; 25])
@@ -143,7 +142,7 @@ pub extern "C" fn bench_dec(
 ) -> bool
     requires { ⌜ Coefficients 320 (now ciphertext) ⌝ }
     ensures { λ r. ⌜ (r ≡ opens (dec ones (now (secret .entry)) (now (ciphertext .entry))))
-        × (now (shared .exit) ≡ shared-key (dec ones (now (secret .entry)) (now (ciphertext .entry))) (now (shared .entry))) ⌝ }
+        × (now (shared .exit) ≡ key-or (dec ones (now (secret .entry)) (now (ciphertext .entry))) (now (shared .entry))) ⌝ }
 {
     seal::dec(secret, ciphertext, shared)
 }

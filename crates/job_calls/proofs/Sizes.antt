@@ -14,10 +14,10 @@ use Rattle.refusals.specs.Judgement.{Told, No, sign, gives, refuses}
 use Rattle.hash.specs.Fips202.{sha3-256}
 use Rattle.hash.proofs.Outputs.{length-sha3-256}
 use Rattle.lanes.specs.Samplers.{ones}
-use Rattle.packets.specs.Packets.{Bytes, key-if, same, sealing, extracted, payload, secret-key, public-key, PublicKey, keygen, enc, dec}
+use Rattle.packets.specs.Packets.{key, differs, same, sealing, extracted, payload, secret-key, public-key, PublicKey, keygen, enc, dec}
 use Rattle.packets.specs.Layout.{public-bytes, public-of}
 use Rattle.packets.proofs.Sizes.{part-below, public-canonical}
-use Rattle.packets.proofs.Delivery.{secret-key-bytes, ciphertext-canonical}
+use Rattle.packets.proofs.Delivery.{secret-key-is-bytes, ciphertext-canonical}
 use Rattle.kem_calls.specs.Opened.{opened-key}
 use Rattle.job_calls.specs.Jobs.{ten, written, is-job, keygen-answer, enc-answer, dec-answer, job-answer}
 
@@ -35,9 +35,9 @@ keys-size : (r : List ℕ) → length (keygen ones r .secret ++ public-bytes (ke
 unfolding keygen public-key public-bytes
 keys-size r =
     let sk = secret-key r in
-    let s : length (part 32 32 sk) ≡ 32 = part-below 256 32 32 64 sk (lit< tt) (omega arith) (secret-key-bytes r) .size in
+    let s : length (part 32 32 sk) ≡ 32 = part-below 256 32 32 64 sk (lit< tt) (omega arith) (secret-key-is-bytes r) .size in
     let g : length (bytes (public-key ones sk .ga)) ≡ 2048 = length-bytes _ ∙ ap (λ (n : ℕ). 8 * n) (public-canonical ones sk .size) in
-    length-append sk _ ∙ omega (arith, secret-key-bytes r .size, length-append (part 32 32 sk) (bytes (public-key ones sk .ga)), s, g)
+    length-append sk _ ∙ omega (arith, secret-key-is-bytes r .size, length-append (part 32 32 sk) (bytes (public-key ones sk .ga)), s, g)
 
 packet-size : (pk : PublicKey) (r : List ℕ) → length (enc ones pk r .shared ++ bytes (enc ones pk r .ciphertext)) ≡ 2592
 unfolding enc
@@ -45,7 +45,7 @@ packet-size pk r =
     let c : length (bytes (enc ones pk r .ciphertext)) ≡ 2560 = length-bytes _ ∙ ap (λ (n : ℕ). 8 * n) (ciphertext-canonical ones pk r .size) in
     length-append (enc ones pk r .shared) _ ∙ omega (arith, length-sha3-256 (payload r), c)
 
-key-size : (b : Bool) (m : List ℕ) → length (opened-key (key-if b (sha3-256 m))) ≤ 32
+key-size : (b : Bool) (m : List ℕ) → length (opened-key (pick b (key (sha3-256 m)) differs)) ≤ 32
 unfolding opened-key
 key-size true m = omega (arith, length-sha3-256 m)
 key-size false m = omega arith

@@ -14,9 +14,8 @@ use Rattle.refusals.specs.Answers.{said, into, left, Call}
 use Rattle.refusals.specs.declared.Answer.{Answer}
 use Rattle.refusals.specs.declared.Answer.the-variants.{Done}
 use Rattle.refusals.proofs.Calls.{done}
-use Rattle.packets.specs.Packets.{Opened, key, differs}
+use Rattle.packets.specs.Packets.{Opened, key, differs, opens, key-or}
 use Rattle.packets.specs.Layout.{public-of}
-use Rattle.seal.specs.Opening.{opens, shared-key}
 use Rattle.kem_calls.specs.Opened.{opened-told, opened-key}
 
 pub ga-good : (pk : List ℕ) → length pk ≡ 2080 → Coefficients 256 (words (drop 32 pk)) → Coefficients 256 (public-of pk .ga)
@@ -26,22 +25,22 @@ ga-good pk h c = subst (λ (l : List ℕ). Coefficients 256 (words l)) (sym (tak
 true-false : {A : Type 0} → _≡_ {A = Bool} true false → A
 true-false z = let q : _≡_ {A = ℕ} 0 1 = cc in absurd (omega arith)
 
-opened-yes : (o : Opened) (b : Bool) (old new : List ℕ) → b ≡ opens o → b ≡ true → new ≡ shared-key o old
+opened-yes : (o : Opened) (b : Bool) (old new : List ℕ) → b ≡ opens o → b ≡ true → new ≡ key-or o old
     → (fine ≡ opened-told o) × (new ∷ [] ≡ left (opened-told o) (into old (opened-key o) ∷ []))
-unfolding opens shared-key opened-told opened-key
+unfolding opens key-or opened-told opened-key
 opened-yes (key k) b old new e t n = (refl, ap (λ (l : List ℕ). l ∷ []) n)
 opened-yes differs b old new e t n = true-false (sym t ∙ e)
 
-opened-no : (o : Opened) (b : Bool) (old new : List ℕ) → b ≡ opens o → b ≡ false → new ≡ shared-key o old
+opened-no : (o : Opened) (b : Bool) (old new : List ℕ) → b ≡ opens o → b ≡ false → new ≡ key-or o old
     → (refuses (sign 3 0 0) ≡ opened-told o) × (new ∷ [] ≡ left (opened-told o) (into old (opened-key o) ∷ []))
-unfolding opens shared-key opened-told opened-key
+unfolding opens key-or opened-told opened-key
 opened-no (key k) b old new e t n = true-false (sym e ∙ t)
 opened-no differs b old new e t n = (refl, ap (λ (l : List ℕ). l ∷ []) n)
 
 pub opens-done : (v : Answer) (args : List Asked) (o : Opened) (b : Bool) (old new : List ℕ) → v ≡ Done → said v ≡ judged args
-    → b ≡ opens o → b ≡ true → new ≡ shared-key o old → Call args (opened-told o) fine (into old (opened-key o) ∷ []) (new ∷ [])
+    → b ≡ opens o → b ≡ true → new ≡ key-or o old → Call args (opened-told o) fine (into old (opened-key o) ∷ []) (new ∷ [])
 opens-done v args o b old new e f g t n = let w = opened-yes o b old new g t n in done v args _ _ _ _ e f (w .0) (w .1)
 
 pub opens-not : (v : Answer) (args : List Asked) (o : Opened) (b : Bool) (old new : List ℕ) → v ≡ Done → said v ≡ judged args
-    → b ≡ opens o → b ≡ false → new ≡ shared-key o old → Call args (opened-told o) (refuses (sign 3 0 0)) (into old (opened-key o) ∷ []) (new ∷ [])
+    → b ≡ opens o → b ≡ false → new ≡ key-or o old → Call args (opened-told o) (refuses (sign 3 0 0)) (into old (opened-key o) ∷ []) (new ∷ [])
 opens-not v args o b old new e f g t n = let w = opened-no o b old new g t n in done v args _ _ _ _ e f (w .0) (w .1)

@@ -14,20 +14,20 @@ use Rattle.codec.proofs.Layouts.{words-bytes, bytes-words, bytes-below, length-
 use Rattle.lanes.specs.Samplers.{ones}
 use Rattle.hash.specs.Fips202.{shake256, sha3-256}
 use Rattle.hash.proofs.Outputs.{below-shake256}
-use Rattle.packets.specs.Packets.{Bytes, part, seed-of, PublicKey, payload, secret-key, public-key, keygen, sealing, enc, key, dec}
+use Rattle.packets.specs.Packets.{Bytes, seed-of, PublicKey, payload, secret-key, public-key, keygen, sealing, enc, key, dec}
 use Rattle.packets.specs.Layout.{public-bytes, public-of}
 use Rattle.packets.specs.Demand3.{Quiet, Opens}
 use Rattle.packets.proofs.Sizes.{append-below, part-below, public-canonical, sealing-canonical}
 use Rattle.packets.proofs.Opening.{quiet-read, its-key-is}
 
 -- ---- bytes
-pub payload-bytes : (r : List ℕ) → Bytes 32 (payload r)
+pub payload-is-bytes : (r : List ℕ) → Bytes 32 (payload r)
 unfolding payload
-payload-bytes r = below-shake256 r 32
+payload-is-bytes r = below-shake256 r 32
 
-pub secret-key-bytes : (r : List ℕ) → Bytes 64 (secret-key r)
+pub secret-key-is-bytes : (r : List ℕ) → Bytes 64 (secret-key r)
 unfolding secret-key
-secret-key-bytes r = append-below 256 32 32 _ _ (lit< tt) (below-shake256 (r ++ (1 ∷ [])) 32) (below-shake256 (r ++ (0 ∷ [])) 32)
+secret-key-is-bytes r = append-below 256 32 32 _ _ (lit< tt) (below-shake256 (r ++ (1 ∷ [])) 32) (below-shake256 (r ++ (0 ∷ [])) 32)
 
 -- coefficients fit eight bytes
 pub fits-word : (n : ℕ) (l : List ℕ) → Coefficients n l → Below (2 ^ 64) n l
@@ -65,7 +65,7 @@ module _ (count : ℕ → ℕ) where
   pub packet-opens : (sk r : List ℕ) → Quiet count sk (payload r)
       → dec count sk (enc count (public-key count sk) r .ciphertext) ≡ key (enc count (public-key count sk) r .shared)
   unfolding enc
-  packet-opens sk r q = sealed-opens sk (payload r) (payload-bytes r) q
+  packet-opens sk r q = sealed-opens sk (payload r) (payload-is-bytes r) q
 
   -- the same through the bytes of public key and ciphertext
   pub bytes-open : (sk r : List ℕ) → Bytes 64 sk → Quiet count sk (payload r)

@@ -8,6 +8,7 @@ use native.Mathlib.Omega.{arith}
 use lib.Dec.{T, eqb, eqb→eq, eqb-refl}
 use lib.ListN.{length, getD, take}
 use lib.Seq.{ext-getD, take-at, drop-at, take-all}
+use Rattle.laws.specs.Choices.{pick}
 use Rattle.laws.proofs.Tests.{all, all-at, all-of}
 use Rattle.field.specs.Field.{Coefficients}
 use Rattle.ring.specs.Transform.{transform, untransform}
@@ -22,7 +23,7 @@ use Rattle.lanes.proofs.Messages.{embed-canonical, extract-bytes}
 use Rattle.noise.specs.Lanes.{noise}
 use Rattle.noise.proofs.Noise.{noise-theorem}
 use Rattle.hash.specs.Fips202.{sha3-256}
-use Rattle.packets.specs.Packets.{Bytes, key-of, seed-of, PublicKey, G, first, second, public-key, bg-of, bga-m-of, sealing, extracted, Opened, key, differs, key-if, same, dec}
+use Rattle.packets.specs.Packets.{Bytes, key-of, seed-of, PublicKey, G, first, second, public-key, bg-of, bga-m-of, sealing, extracted, Opened, key, differs, same, dec}
 use Rattle.packets.specs.Demand3.{noise-of, Read, Quiet, Opens, Demand3}
 use Rattle.packets.proofs.Products.{ga-cell, bg-cell, bga-m-row}
 use Rattle.packets.proofs.Sizes.{first-cell, second-cell, bg-canonical, bga-m-canonical, sealing-canonical}
@@ -39,7 +40,7 @@ same-is n s t hs ht h =
     (λ i q. let g : i < n = omega arith in eqb→eq (getD s i 0) (getD t i 0) (all-at (λ j. eqb (getD s j 0) (getD t j 0)) n h i g))
 
 -- ---- the answer
-key-yes : (b : Bool) (k : List ℕ) → T b → key-if b k ≡ key k
+key-yes : (b : Bool) (k : List ℕ) → T b → pick b (key k) differs ≡ key k
 key-yes true k h = refl
 key-yes false k h = absurd h
 
@@ -47,7 +48,7 @@ abbrev is-key : Opened → Type 0
 is-key (key k) = Unit
 is-key differs = ⊥
 
-yes-key : (b : Bool) (j k : List ℕ) → key-if b j ≡ key k → T b
+yes-key : (b : Bool) (j k : List ℕ) → pick b (key j) differs ≡ key k → T b
 yes-key true j k e = tt
 yes-key false j k e = subst is-key (sym e) tt
 

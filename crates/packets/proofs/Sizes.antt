@@ -7,7 +7,7 @@ use native.Mathlib.Omega.{arith}
 use lib.Dec.{lit<}
 use lib.ListN.{length, getD, take, drop, length-append, length-drop}
 use lib.Seq.{length-take-le}
-use Rattle.laws.specs.Lists.{Below}
+use Rattle.laws.specs.Lists.{Below, part}
 use Rattle.laws.proofs.Lists.{getD-tab, each-append, each-take, each-drop}
 use Rattle.field.specs.Field.{P, Coefficients}
 use Rattle.ring.specs.Matrices.{cell}
@@ -16,7 +16,7 @@ use Rattle.ring.proofs.Products.{plus-canonical}
 use Rattle.lanes.specs.Samplers.{uniform, uniforms}
 use Rattle.lanes.proofs.Samplers.{uniforms-canonical, shorts-canonical}
 use Rattle.hash.specs.Fips202.{shake256, sha3-256}
-use Rattle.packets.specs.Packets.{Bytes, part, seed-of, PublicKey, G, first, second, ga-of, public-key, bg-of, bga-m-of, sealing, enc, payload, secret-key}
+use Rattle.packets.specs.Packets.{Bytes, seed-of, PublicKey, G, first, second, ga-of, public-key, bg-of, bga-m-of, sealing, enc, payload, secret-key}
 
 -- ---- lists below a bound, joined and cut
 pub append-below : (b m n : ℕ) (s t : List ℕ) → 0 < b → Below b m s → Below b n t → Below b (m + n) (s ++ t)

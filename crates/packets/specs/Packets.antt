@@ -1,11 +1,12 @@
 -- Document 01, "Keys and packets", line by line, on lists of numbers. A vector or matrix of ring elements is one flat list, row by row: element i
--- stands from 64 * i on. What depends on the short sampler takes as `count` how a byte's bits are counted; the Rust's is `ones`. Assumes nothing.
+-- stands from 64 * i on. What depends on the short sampler takes as `count` how a byte's bits are counted; the Rust's is `ones`.
 use mathlib.Core.Bool.{Bool, true, false}
 use mathlib.Core.List.{List, [], _∷_, _++_}
 use Prim.Native.Nat.{ℕ}
 use lib.Dec.{eqb}
-use lib.ListN.{getD, take, drop}
-use Rattle.laws.specs.Lists.{Below}
+use lib.ListN.{getD, take}
+use Rattle.laws.specs.Choices.{pick}
+use Rattle.laws.specs.Lists.{Below, part}
 use Rattle.laws.proofs.Tests.{all}
 use Rattle.ring.specs.Transform.{transform, untransform}
 use Rattle.ring.specs.Elements.{plus, minus}
@@ -17,10 +18,6 @@ use Rattle.hash.specs.Fips202.{shake256, sha3-256}
 -- n bytes
 abbrev pub Bytes : ℕ → List ℕ → Type 0
 Bytes n l = Below 256 n l
-
--- n numbers from place k on
-abbrev pub part : ℕ → ℕ → List ℕ → List ℕ
-part k n l = take n (drop k l)
 
 pub record PublicKey : Type 0 where
   pub seed : List ℕ
@@ -97,9 +94,15 @@ pub data Opened : Type 0 where
   key : List ℕ → Opened
   differs : Opened
 
-abbrev pub key-if : Bool → List ℕ → Opened
-key-if true k = key k
-key-if false k = differs
+-- there is a key
+unfoldable pub opens : Opened → Bool
+opens (key k) = true
+opens differs = false
+
+-- the key, or what was there before
+unfoldable pub key-or : Opened → List ℕ → List ℕ
+key-or (key k) old = k
+key-or differs old = old
 
 -- the first n numbers are the same
 unfoldable pub same : ℕ → List ℕ → List ℕ → Bool
@@ -107,4 +110,6 @@ same n s t = all (λ i. eqb (getD s i 0) (getD t i 0)) n
 
 -- rebuild the public key, regenerate all 320 coefficients, compare them all
 unfoldable pub dec : (ℕ → ℕ) → List ℕ → List ℕ → Opened
-dec count sk ct = key-if (same 320 (sealing count (public-key count sk) (extracted count sk ct)) ct) (sha3-256 (extracted count sk ct))
+dec count sk ct =
+    let m = extracted count sk ct in
+    pick (same 320 (sealing count (public-key count sk) m) ct) (key (sha3-256 m)) differs

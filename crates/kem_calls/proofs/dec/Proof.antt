@@ -5,8 +5,7 @@ use mathlib.Core.Path.{sym, ap, _∙_, subst}
 use Prim.Native.Nat.{ℕ}
 use Rattle.field.specs.Field.{Coefficients}
 use Rattle.lanes.specs.Samplers.{ones}
-use Rattle.packets.specs.Packets.{dec}
-use Rattle.seal.specs.Opening.{opens, shared-key}
+use Rattle.packets.specs.Packets.{dec, opens, key-or}
 use Rattle.refusals.proofs.Calls.{as-asked, handed-back}
 use Rattle.kem_calls.proofs.Shapes.{opens-done, opens-not}
 use Rattle.kem_calls.proofs.dec.Statement.{statement}
@@ -30,7 +29,7 @@ returns-2 c =
     let u = k .before .before .before .before .unpack .ensures in
     let a = k .before .before .before .before .before .before .before .before .before .before .before .before .args in
     let opened = k .dec .ensures .0 ∙ ap (λ (l : List ℕ). opens (dec ones (a .secret .now) l)) u in
-    let shared = k .dec .ensures .1 ∙ ap (λ (l : List ℕ). shared-key (dec ones (a .secret .now) l) (a .shared .now)) u in
+    let shared = k .dec .ensures .1 ∙ ap (λ (l : List ℕ). key-or (dec ones (a .secret .now) l) (a .shared .now)) u in
     search opens-done
 
 returns-3 : tie.Need-returns-3
@@ -39,7 +38,7 @@ returns-3 c =
     let u = k .before .before .before .before .unpack .ensures in
     let a = k .before .before .before .before .before .before .before .before .before .before .before .before .args in
     let opened = k .dec .ensures .0 ∙ ap (λ (l : List ℕ). opens (dec ones (a .secret .now) l)) u in
-    let shared = k .dec .ensures .1 ∙ ap (λ (l : List ℕ). shared-key (dec ones (a .secret .now) l) (a .shared .now)) u in
+    let shared = k .dec .ensures .1 ∙ ap (λ (l : List ℕ). key-or (dec ones (a .secret .now) l) (a .shared .now)) u in
     search opens-not
 
 pub dec-spec : {M : Type 1} → statement M
