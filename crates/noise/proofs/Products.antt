@@ -1,4 +1,4 @@
--- The lanes of sums, of products modulo X^64 + 1, of products of vectors, and of b·c - d·a, worked out from the lanes of the factors. Assumes nothing.
+-- The lanes of sums, of products modulo X^64 + 1, of products of vectors, and of b·c - d·a, worked out from the lanes of the factors.
 use mathlib.Core.Path.{_≡_, refl, sym, ap, _∙_, subst}
 use mathlib.Core.Bool.{Bool, true, false}
 use mathlib.Core.List.{List}
@@ -19,7 +19,8 @@ use Rattle.field.specs.Field.{P}
 use Rattle.ring.specs.Elements.{minus, shift, product}
 use Rattle.ring.specs.Matrices.{ring-dot}
 use Rattle.ring.proofs.Residue.{remainders}
-use Rattle.noise.proofs.Four.{Four, worth, none, add, negative, mul, worth-add, worth-negative, worth-mul, within-add, within-negative, within-mul, On}
+use Rattle.noise.proofs.Four.{Four, worth, none, add, negative, mul, On}
+use Rattle.noise.proofs.Four.{worth-add, worth-negative, worth-mul, within-add, within-negative, within-mul}
 
 -- ---- one number
 pub on-cong : {b v w : ℕ} {e : Four} → Cong P v w → On b e v → On b e w
@@ -43,7 +44,10 @@ total-lanes (suc n) f = add (total-lanes n f) (f n)
 
 pub on-total : (b n : ℕ) (f : ℕ → Four) (g : ℕ → ℕ) → ((i : ℕ) → i < n → On b (f i) (g i)) → On (n * b) (total-lanes n f) (total n g)
 unfolding total-lanes total
-on-total b zero f g h = record { worths = unfold worth residue in record { same = refl }; within = record { s0 = nothing; s1 = nothing; s2 = nothing; s3 = nothing } }
+on-total b zero f g h = record {
+  worths = unfold worth residue in record { same = refl };
+  within = record { s0 = nothing; s1 = nothing; s2 = nothing; s3 = nothing };
+}
   where
     nothing : Sized (none .l0) (0 * b)
     nothing = record { size = omega arith }
@@ -75,7 +79,8 @@ unfolding shift-lanes shift
 on-shift b f y s m i hm hi = go (leb i m) refl
   where
     go : (t : Bool) → leb i m ≡ t
-        → On b (elim t as (λ x. Four) [ true ↦ f (m - i) | false ↦ negative (f (64 + m - i)) ]) (elim t as (λ x. ℕ) [ true ↦ getD y (m - i) 0 | false ↦ P - getD y (64 + m - i) 0 ])
+        → On b (elim t as (λ x. Four) [ true ↦ f (m - i) | false ↦ negative (f (64 + m - i)) ])
+        (elim t as (λ x. ℕ) [ true ↦ getD y (m - i) 0 | false ↦ P - getD y (64 + m - i) 0 ])
     go true e = s .on (m - i) (omega arith)
     go false e =
         let l : m < i = leb-false i m e in
@@ -88,25 +93,28 @@ pub in-product : {b c : ℕ} {f g : ℕ → Four} {x y : List ℕ} → In b f x 
 unfolding product-lanes product
 in-product {b} {c} {f} {g} {x} {y} p q =
     in-tab (64 * (6 * (b * c))) (product-lanes f g) (λ m. total 64 (λ i. getD x i 0 * shift y m i)) (λ m h.
-    on-total (6 * (b * c)) 64 (λ i. mul (f i) (shift-lanes g m i)) (λ i. getD x i 0 * shift y m i) (λ i l. on-mul (p .on i l) (on-shift c g y q m i h l)))
+    on-total (6 * (b * c)) 64 (λ i. mul (f i) (shift-lanes g m i)) (λ i. getD x i 0 * shift y m i)
+    (λ i l. on-mul (p .on i l) (on-shift c g y q m i h l)))
 
 -- ---- vectors of n elements
 unfoldable pub dot-lanes : ℕ → (ℕ → ℕ → Four) → (ℕ → ℕ → Four) → ℕ → Four
 dot-lanes n u v k = total-lanes n (λ i. product-lanes (u i) (v i) k)
 
-pub in-dot : {b c : ℕ} (n : ℕ) {u v : ℕ → ℕ → Four} {x y : ℕ → List ℕ} → ((i : ℕ) → i < n → In b (u i) (x i)) → ((i : ℕ) → i < n → In c (v i) (y i))
-    → In (n * (64 * (6 * (b * c)))) (dot-lanes n u v) (ring-dot n x y)
+pub in-dot : {b c : ℕ} (n : ℕ) {u v : ℕ → ℕ → Four} {x y : ℕ → List ℕ}
+    → ((i : ℕ) → i < n → In b (u i) (x i)) → ((i : ℕ) → i < n → In c (v i) (y i)) → In (n * (64 * (6 * (b * c)))) (dot-lanes n u v) (ring-dot n x y)
 unfolding dot-lanes ring-dot
 in-dot {b} {c} n {u} {v} {x} {y} p q =
     in-tab (n * (64 * (6 * (b * c)))) (dot-lanes n u v) (λ k. total n (λ i. getD (product (x i) (y i)) k 0)) (λ k h.
-    on-total (64 * (6 * (b * c))) n (λ i. product-lanes (u i) (v i) k) (λ i. getD (product (x i) (y i)) k 0) (λ i l. in-product (p i l) (q i l) .on k h))
+    on-total (64 * (6 * (b * c))) n (λ i. product-lanes (u i) (v i) k) (λ i. getD (product (x i) (y i)) k 0)
+    (λ i l. in-product (p i l) (q i l) .on k h))
 
 -- b·c - d·a
 unfoldable pub noise-lanes : ℕ → (ℕ → ℕ → Four) → (ℕ → ℕ → Four) → (ℕ → ℕ → Four) → (ℕ → ℕ → Four) → ℕ → Four
 noise-lanes n a b c d k = add (dot-lanes n b c k) (negative (dot-lanes n d a k))
 
 -- no lane of b·c - d·a is beyond 768 n s², where no lane of a, b, c, d is beyond s: 128 n products, each of six products of lanes
-pub in-noise : (s n : ℕ) {fa fb fc fd : ℕ → ℕ → Four} {a b c d : ℕ → List ℕ} → ((i : ℕ) → i < n → In s (fa i) (a i)) → ((i : ℕ) → i < n → In s (fb i) (b i))
+pub in-noise : (s n : ℕ) {fa fb fc fd : ℕ → ℕ → Four} {a b c d : ℕ → List ℕ}
+    → ((i : ℕ) → i < n → In s (fa i) (a i)) → ((i : ℕ) → i < n → In s (fb i) (b i))
     → ((i : ℕ) → i < n → In s (fc i) (c i)) → ((i : ℕ) → i < n → In s (fd i) (d i))
     → In (n * (768 * (s * s))) (noise-lanes n fa fb fc fd) (minus 64 (ring-dot n b c) (ring-dot n d a))
 unfolding noise-lanes minus

@@ -1,4 +1,4 @@
--- The lanes of what the short sampler draws, for any count of a byte's bits that is at most s, and of the noise of vectors that it draws. Assumes nothing.
+-- The lanes of what the short sampler draws, for any count of a byte's bits that is at most s, and of the noise of vectors that it draws.
 use mathlib.Core.Path.{_≡_, refl, sym, _∙_}
 use mathlib.Core.List.{List, [], _∷_}
 use Prim.Native.Nat.{ℕ, _+_, _*_, _-_, _%_, _≤_, _<_}
@@ -15,9 +15,14 @@ use Rattle.ring.specs.Matrices.{cell}
 use Rattle.ring.proofs.Cells.{cell-at, cell-canonical}
 use Rattle.lanes.specs.Samplers.{ones, counts, short, shorts}
 use Rattle.lanes.proofs.Samplers.{ones-small, shorts-canonical}
-use Rattle.noise.specs.Lanes.{Lanes, noise, guaranteed}
+use Rattle.noise.specs.Noise.{Lanes, noise, guaranteed}
 use Rattle.noise.proofs.Four.{Four, worth-of, quoted, On, on-lanes, lanes-wider}
 use Rattle.noise.proofs.Products.{In, on-cong, in-noise}
+
+-- b·c - d·a of vectors of n elements, each drawn from bytes of its own
+abbrev pub drawn-noise : (ℕ → ℕ) → ℕ → List ℕ → List ℕ → List ℕ → List ℕ → List ℕ
+drawn-noise count n a b c d =
+    noise n (shorts count (n * 64) a) (shorts count (n * 64) b) (shorts count (n * 64) c) (shorts count (n * 64) d)
 
 module _ (count : ℕ → ℕ) (s : ℕ) (small : (n : ℕ) → count n ≤ s) where
   -- the counts of two bytes, as a signed difference
@@ -34,7 +39,9 @@ module _ (count : ℕ → ℕ) (s : ℕ) (small : (n : ℕ) → count n ≤ s) w
   }
 
   between-leaves : (x y : ℕ) → Leaves P (between x y) (count x + (P - count y % P))
-  between-leaves x y = leaves-add (lit< tt) (leaves-pos (count x)) (leaves-neg (lit< tt) (c-trans (c-eq swap) (c-neg (count y) (lit< tt))) (leaves-pos (count y)))
+  between-leaves x y =
+      leaves-add (lit< tt) (leaves-pos (count x))
+      (leaves-neg (lit< tt) (c-trans (c-eq swap) (c-neg (count y) (lit< tt))) (leaves-pos (count y)))
     where
       swap : count y + (P - count y % P) ≡ P - count y % P + count y
       swap = omega arith
@@ -73,16 +80,15 @@ module _ (count : ℕ → ℕ) (s : ℕ) (small : (n : ℕ) → count n ≤ s) w
   }
 
   -- no lane of b·c - d·a is beyond 768 n s², for vectors of n elements drawn from the bytes a, b, c, d
-  pub short-noise : (n : ℕ) (a b c d : List ℕ) (k : ℕ) → k < 64
-      → Lanes (n * (768 * (s * s))) (getD (noise n (shorts count (n * 64) a) (shorts count (n * 64) b) (shorts count (n * 64) c) (shorts count (n * 64) d)) k 0)
+  pub short-noise : (n : ℕ) (a b c d : List ℕ) (k : ℕ) → k < 64 → Lanes (n * (768 * (s * s))) (getD (drawn-noise count n a b c d) k 0)
   unfolding noise
   short-noise n a b c d k h = on-lanes _ (in-noise s n (in-shorts n a) (in-shorts n b) (in-shorts n c) (in-shorts n d) .on k h)
 
 -- the vectors of a key and of a payload
-pub base-noise : (a b c d : List ℕ) (k : ℕ) → k < 64 → Lanes guaranteed (getD (noise 4 (shorts ones 256 a) (shorts ones 256 b) (shorts ones 256 c) (shorts ones 256 d)) k 0)
+pub base-noise : (a b c d : List ℕ) (k : ℕ) → k < 64 → Lanes guaranteed (getD (drawn-noise ones 4 a b c d) k 0)
 base-noise a b c d k h = lanes-wider guaranteed (lit≤ tt) (short-noise ones 8 ones-small 4 a b c d k h)
 
 -- with counts up to 2 no lane is beyond 12,288, which is within the limit
 pub light-noise : (count : ℕ → ℕ) → ((n : ℕ) → count n ≤ 2)
-    → (a b c d : List ℕ) (k : ℕ) → k < 64 → Lanes 12288 (getD (noise 4 (shorts count 256 a) (shorts count 256 b) (shorts count 256 c) (shorts count 256 d)) k 0)
+    → (a b c d : List ℕ) (k : ℕ) → k < 64 → Lanes 12288 (getD (drawn-noise count 4 a b c d) k 0)
 light-noise count small = short-noise count 2 small 4

@@ -1,2 +1,2 @@
 -- What the theorems on noise are stated with.
-pub mod Lanes
+pub mod Noise

@@ -1,4 +1,4 @@
--- What follows from demand 3 for packets that were sealed for the key, also through their bytes. Assumes nothing.
+-- What follows from demand 3 for packets that were sealed for the key, also through their bytes.
 use mathlib.Core.Path.{_≡_, refl, sym, ap, _∙_}
 use mathlib.Core.List.{List, [], _∷_, _++_}
 use Prim.Native.Nat.{ℕ, _^_, _<_}
@@ -10,44 +10,47 @@ use lib.Seq.{take-at, drop-at, take-all}
 use Rattle.laws.specs.Lists.{Below}
 use Rattle.field.specs.Field.{P, Coefficients}
 use Rattle.codec.specs.Layout.{words, bytes}
+use Rattle.codec.specs.Sizes.{secret-key-bytes, ciphertext-numbers}
 use Rattle.codec.proofs.Layouts.{words-bytes, bytes-words, bytes-below, length-bytes}
-use Rattle.lanes.specs.Samplers.{ones}
 use Rattle.hash.specs.Fips202.{shake256, sha3-256}
 use Rattle.hash.proofs.Outputs.{below-shake256}
-use Rattle.packets.specs.Packets.{Bytes, seed-of, PublicKey, payload, secret-key, public-key, keygen, sealing, enc, key, dec}
+use Rattle.packets.specs.Parameters.{vector-numbers, vector-bytes, key-bytes, seed-bytes, payload-bytes}
+use Rattle.packets.specs.Packets.{Bytes, PublicKey, payload, secret-key, public-key, keygen, sealing, enc, key, dec}
 use Rattle.packets.specs.Layout.{public-bytes, public-of}
 use Rattle.packets.specs.Demand3.{Quiet, Opens}
 use Rattle.packets.proofs.Sizes.{append-below, part-below, public-canonical, sealing-canonical}
-use Rattle.packets.proofs.Opening.{quiet-read, its-key-is}
+use Rattle.packets.proofs.Demand3.{quiet-read, its-key-is}
 
 -- ---- bytes
-pub payload-is-bytes : (r : List ℕ) → Bytes 32 (payload r)
+pub payload-is-bytes : (r : List ℕ) → Bytes payload-bytes (payload r)
 unfolding payload
-payload-is-bytes r = below-shake256 r 32
+payload-is-bytes r = below-shake256 r payload-bytes
 
-pub secret-key-is-bytes : (r : List ℕ) → Bytes 64 (secret-key r)
+pub secret-key-is-bytes : (r : List ℕ) → Bytes secret-key-bytes (secret-key r)
 unfolding secret-key
-secret-key-is-bytes r = append-below 256 32 32 _ _ (lit< tt) (below-shake256 (r ++ (1 ∷ [])) 32) (below-shake256 (r ++ (0 ∷ [])) 32)
+secret-key-is-bytes r =
+    append-below 256 key-bytes seed-bytes _ _ (lit< tt) (below-shake256 (r ++ (1 ∷ [])) key-bytes) (below-shake256 (r ++ (0 ∷ [])) seed-bytes)
 
 -- coefficients fit eight bytes
 pub fits-word : (n : ℕ) (l : List ℕ) → Coefficients n l → Below (2 ^ 64) n l
 fits-word n l h = record { size = h .size; each = λ i. lt-trans (h .each i) (lit< tt) }
 
 -- reading a public key's bytes gives it back
-pub public-back : (pk : PublicKey) → length (pk .seed) ≡ 32 → Coefficients 256 (pk .ga) → public-of (public-bytes pk) ≡ pk
+pub public-back : (pk : PublicKey) → length (pk .seed) ≡ seed-bytes → Coefficients vector-numbers (pk .ga) → public-of (public-bytes pk) ≡ pk
 unfolding public-of public-bytes
-public-back pk hs hg = λ i. record {
-  seed = take-at (pk .seed) (bytes (pk .ga)) 32 hs i;
-  ga = (ap words (ap (take 2048) (drop-at (pk .seed) (bytes (pk .ga)) 32 hs)
-      ∙ take-all 2048 (bytes (pk .ga)) (omega (arith, length-bytes (pk .ga), hg .size))) ∙ words-bytes (pk .ga) 256 (fits-word 256 (pk .ga) hg)) i;
-}
+public-back pk hs hg =
+    let packed = bytes (pk .ga) in
+    let all = take-all vector-bytes packed (omega (arith, length-bytes (pk .ga), hg .size)) in
+    let back = ap (take vector-bytes) (drop-at (pk .seed) packed seed-bytes hs) ∙ all in
+    let ga = ap words back ∙ words-bytes (pk .ga) vector-numbers (fits-word vector-numbers (pk .ga) hg) in
+    λ i. record { seed = take-at (pk .seed) packed seed-bytes hs i; ga = ga i }
 
 module _ (count : ℕ → ℕ) where
-  seed-size : (sk : List ℕ) → Bytes 64 sk → length (public-key count sk .seed) ≡ 32
+  seed-size : (sk : List ℕ) → Bytes secret-key-bytes sk → length (public-key count sk .seed) ≡ seed-bytes
   unfolding public-key
-  seed-size sk h = part-below 256 32 32 64 sk (lit< tt) (omega arith) h .size
+  seed-size sk h = part-below 256 key-bytes seed-bytes secret-key-bytes sk (lit< tt) (omega arith) h .size
 
-  pub ciphertext-canonical : (pk : PublicKey) (r : List ℕ) → Coefficients 320 (enc count pk r .ciphertext)
+  pub ciphertext-canonical : (pk : PublicKey) (r : List ℕ) → Coefficients ciphertext-numbers (enc count pk r .ciphertext)
   unfolding enc
   ciphertext-canonical pk r = sealing-canonical count pk (payload r)
 
@@ -57,7 +60,8 @@ module _ (count : ℕ → ℕ) where
   keygen-public r = refl
 
   -- a payload sealed for the key with small noise opens to its SHA3-256
-  pub sealed-opens : (sk m : List ℕ) → Bytes 32 m → Quiet count sk m → dec count sk (sealing count (public-key count sk) m) ≡ key (sha3-256 m)
+  pub sealed-opens : (sk m : List ℕ) → Bytes payload-bytes m → Quiet count sk m
+      → dec count sk (sealing count (public-key count sk) m) ≡ key (sha3-256 m)
   sealed-opens sk m h q =
       its-key-is count sk (sealing count (public-key count sk) m) m (record { payload = h; sealed = refl; read = quiet-read count sk m h q })
 
@@ -68,10 +72,11 @@ module _ (count : ℕ → ℕ) where
   packet-opens sk r q = sealed-opens sk (payload r) (payload-is-bytes r) q
 
   -- the same through the bytes of public key and ciphertext
-  pub bytes-open : (sk r : List ℕ) → Bytes 64 sk → Quiet count sk (payload r)
-      → let packet = enc count (public-of (public-bytes (public-key count sk))) r in dec count sk (words (bytes (packet .ciphertext))) ≡ key (packet .shared)
+  pub bytes-open : (sk r : List ℕ) → Bytes secret-key-bytes sk → Quiet count sk (payload r)
+      → let packet = enc count (public-of (public-bytes (public-key count sk))) r in
+      dec count sk (words (bytes (packet .ciphertext))) ≡ key (packet .shared)
   bytes-open sk r h q =
-      let e : public-of (public-bytes (public-key count sk)) ≡ public-key count sk = public-back (public-key count sk) (seed-size sk h) (public-canonical count sk) in
-      (λ i. dec count sk (words (bytes (enc count (e i) r .ciphertext))))
-      ∙ ap (dec count sk) (words-bytes (enc count (public-key count sk) r .ciphertext) 320 (fits-word 320 _ (ciphertext-canonical (public-key count sk) r)))
-      ∙ packet-opens sk r q ∙ (λ i. key (enc count (sym e i) r .shared))
+      let pk = public-key count sk in
+      let e : public-of (public-bytes pk) ≡ pk = public-back pk (seed-size sk h) (public-canonical count sk) in
+      let fits = fits-word ciphertext-numbers _ (ciphertext-canonical pk r) in
+      rw (e, words-bytes (enc count pk r .ciphertext) ciphertext-numbers fits) (packet-opens sk r q)

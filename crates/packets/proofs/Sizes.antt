@@ -1,4 +1,4 @@
--- Keys and packets have the sizes of document 01, with canonical coefficients. Assumes nothing.
+-- Keys and packets have the sizes of document 01, with canonical coefficients.
 use mathlib.Core.Path.{_≡_, sym, ap, _∙_, subst}
 use mathlib.Core.List.{List, [], _∷_, _++_}
 use mathlib.Core.Logic.{⊎-elim}
@@ -9,6 +9,7 @@ use lib.ListN.{length, getD, take, drop, length-append, length-drop}
 use lib.Seq.{length-take-le}
 use Rattle.laws.specs.Lists.{Below, part}
 use Rattle.laws.proofs.Lists.{getD-tab, each-append, each-take, each-drop}
+use Rattle.codec.specs.Sizes.{ciphertext-numbers}
 use Rattle.field.specs.Field.{P, Coefficients}
 use Rattle.ring.specs.Matrices.{cell}
 use Rattle.ring.proofs.Cells.{cell-canonical}
@@ -16,7 +17,8 @@ use Rattle.ring.proofs.Products.{plus-canonical}
 use Rattle.lanes.specs.Samplers.{uniform, uniforms}
 use Rattle.lanes.proofs.Samplers.{uniforms-canonical, shorts-canonical}
 use Rattle.hash.specs.Fips202.{shake256, sha3-256}
-use Rattle.packets.specs.Packets.{Bytes, seed-of, PublicKey, G, first, second, ga-of, public-key, bg-of, bga-m-of, sealing, enc, payload, secret-key}
+use Rattle.packets.specs.Parameters.{vector-numbers, matrix-numbers, matrix-bytes, vector-bytes, vectors-bytes}
+use Rattle.packets.specs.Packets.{PublicKey, G, first, second, ga-of, public-key, bg-of, bga-m-of, sealing}
 
 -- ---- lists below a bound, joined and cut
 pub append-below : (b m n : ℕ) (s t : List ℕ) → 0 < b → Below b m s → Below b n t → Below b (m + n) (s ++ t)
@@ -39,25 +41,25 @@ take-below b n m l pos h hl = record {
 
 -- ---- keys and packets
 -- coefficient k of G is the draw of nine bytes from 9 k on, as it stands: not transformed again, nothing redrawn
-pub G-draw : (seed : List ℕ) (k : ℕ) → k < 1024 → getD (G seed) k 0 ≡ uniform (shake256 seed 9216) (9 * k)
+pub G-draw : (seed : List ℕ) (k : ℕ) → k < matrix-numbers → getD (G seed) k 0 ≡ uniform (shake256 seed matrix-bytes) (9 * k)
 unfolding G uniforms
-G-draw seed k h = getD-tab 1024 (λ i. uniform (shake256 seed 9216) (9 * i)) 0 k h
+G-draw seed k h = getD-tab matrix-numbers (λ i. uniform (shake256 seed matrix-bytes) (9 * i)) 0 k h
 
-pub G-canonical : (seed : List ℕ) → Coefficients 1024 (G seed)
+pub G-canonical : (seed : List ℕ) → Coefficients matrix-numbers (G seed)
 unfolding G
-G-canonical seed = uniforms-canonical 1024 (shake256 seed 9216)
+G-canonical seed = uniforms-canonical matrix-numbers (shake256 seed matrix-bytes)
 
 pub G-cell : (seed : List ℕ) (i : ℕ) → Coefficients 64 (cell (G seed) i)
 G-cell seed = cell-canonical (G seed) (G-canonical seed .each)
 
 module _ (count : ℕ → ℕ) where
-  pub first-canonical : (k : List ℕ) → Coefficients 256 (first count k)
+  pub first-canonical : (k : List ℕ) → Coefficients vector-numbers (first count k)
   unfolding first
-  first-canonical k = shorts-canonical count 256 (take 2048 (shake256 k 4096))
+  first-canonical k = shorts-canonical count vector-numbers (take vector-bytes (shake256 k vectors-bytes))
 
-  pub second-canonical : (k : List ℕ) → Coefficients 256 (second count k)
+  pub second-canonical : (k : List ℕ) → Coefficients vector-numbers (second count k)
   unfolding second
-  second-canonical k = shorts-canonical count 256 (part 2048 2048 (shake256 k 4096))
+  second-canonical k = shorts-canonical count vector-numbers (part vector-bytes vector-bytes (shake256 k vectors-bytes))
 
   pub first-cell : (k : List ℕ) (i : ℕ) → Coefficients 64 (cell (first count k) i)
   first-cell k = cell-canonical (first count k) (first-canonical k .each)
@@ -65,22 +67,22 @@ module _ (count : ℕ → ℕ) where
   pub second-cell : (k : List ℕ) (i : ℕ) → Coefficients 64 (cell (second count k) i)
   second-cell k = cell-canonical (second count k) (second-canonical k .each)
 
-  pub ga-canonical : (g k : List ℕ) → Coefficients 256 (ga-of count g k)
+  pub ga-canonical : (g k : List ℕ) → Coefficients vector-numbers (ga-of count g k)
   unfolding ga-of
-  ga-canonical g k = plus-canonical 256 _ _
+  ga-canonical g k = plus-canonical vector-numbers _ _
 
-  pub public-canonical : (sk : List ℕ) → Coefficients 256 (public-key count sk .ga)
+  pub public-canonical : (sk : List ℕ) → Coefficients vector-numbers (public-key count sk .ga)
   unfolding public-key
   public-canonical sk = ga-canonical _ _
 
-  pub bg-canonical : (g m : List ℕ) → Coefficients 256 (bg-of count g m)
+  pub bg-canonical : (g m : List ℕ) → Coefficients vector-numbers (bg-of count g m)
   unfolding bg-of
-  bg-canonical g m = plus-canonical 256 _ _
+  bg-canonical g m = plus-canonical vector-numbers _ _
 
   pub bga-m-canonical : (ga m : List ℕ) → Coefficients 64 (bga-m-of count ga m)
   unfolding bga-m-of
   bga-m-canonical ga m = plus-canonical 64 _ _
 
-  pub sealing-canonical : (pk : PublicKey) (m : List ℕ) → Coefficients 320 (sealing count pk m)
+  pub sealing-canonical : (pk : PublicKey) (m : List ℕ) → Coefficients ciphertext-numbers (sealing count pk m)
   unfolding sealing
-  sealing-canonical pk m = append-below P 256 64 _ _ (lit< tt) (bg-canonical (G (pk .seed)) m) (bga-m-canonical (pk .ga) m)
+  sealing-canonical pk m = append-below P vector-numbers 64 _ _ (lit< tt) (bg-canonical (G (pk .seed)) m) (bga-m-canonical (pk .ga) m)

@@ -1,5 +1,5 @@
--- DEMAND 3, as a record: `demand-3` of proofs/Opening proves it for every secret key of 64 bytes and every ciphertext of 320 coefficients below p.
--- `dec`, `sealing` and `public-key` are those that the contracts of `enc` and `dec` cite. Assumes nothing.
+-- DEMAND 3, as a record: `demand-3` of proofs/Demand3 proves it for every secret key and every ciphertext whose coefficients are below p.
+-- `dec`, `sealing` and `public-key` are those that the contracts of `enc` and `dec` cite.
 use mathlib.Core.Path.{_≡_}
 use mathlib.Core.Logic.{_↔_}
 use mathlib.Core.List.{List}
@@ -7,8 +7,9 @@ use Prim.Native.Nat.{ℕ, _<_}
 use lib.ListN.{getD}
 use Rattle.ring.specs.Elements.{plus}
 use Rattle.lanes.specs.Messages.{embed, extract}
-use Rattle.noise.specs.Lanes.{Lanes, noise}
+use Rattle.noise.specs.Noise.{Lanes, limit, noise}
 use Rattle.hash.specs.Fips202.{sha3-256}
+use Rattle.packets.specs.Parameters.{payload-bytes}
 use Rattle.packets.specs.Packets.{Bytes, key-of, first, second, public-key, sealing, Opened, key, dec}
 
 module _ (count : ℕ → ℕ) where
@@ -20,13 +21,13 @@ module _ (count : ℕ → ℕ) where
   abbrev pub Read : List ℕ → List ℕ → Type 0
   Read sk m = extract (plus 64 (embed m) (noise-of sk m)) ≡ m
 
-  -- each coefficient of b·c - d·a is congruent modulo p to e0 + 2^16 e1 + 2^32 e2 + 2^48 e3 with every e from -16381 to 16381
+  -- each coefficient of b·c - d·a is congruent modulo p to e0 + 2^16 e1 + 2^32 e2 + 2^48 e3 with no e beyond the limit
   abbrev pub Quiet : List ℕ → List ℕ → Type 0
-  Quiet sk m = (k : ℕ) → k < 64 → Lanes 16381 (getD (noise-of sk m) k 0)
+  Quiet sk m = (k : ℕ) → k < 64 → Lanes limit (getD (noise-of sk m) k 0)
 
   -- a payload whose sealing under that key's own public key is this ciphertext, and which extraction reads
   pub record Opens (sk ct m : List ℕ) : Type 0 where
-    pub payload : Bytes 32 m
+    pub payload : Bytes payload-bytes m
     pub sealed : sealing count (public-key count sk) m ≡ ct
     pub read : Read sk m
 
@@ -38,4 +39,4 @@ module _ (count : ℕ → ℕ) where
     -- and the key is its SHA3-256
     pub its-key : (m : List ℕ) → Opens sk ct m → dec count sk ct ≡ key (sha3-256 m)
     -- the second condition always holds if the noise is small
-    pub small : (m : List ℕ) → Bytes 32 m → Quiet sk m → Read sk m
+    pub small : (m : List ℕ) → Bytes payload-bytes m → Quiet sk m → Read sk m

@@ -8,12 +8,15 @@ use lib.ListN.{getD, take}
 use Rattle.laws.specs.Choices.{pick}
 use Rattle.laws.specs.Lists.{Below, part}
 use Rattle.laws.proofs.Tests.{all}
+use Rattle.codec.specs.Sizes.{ciphertext-numbers}
 use Rattle.ring.specs.Transform.{transform, untransform}
 use Rattle.ring.specs.Elements.{plus, minus}
 use Rattle.ring.specs.Matrices.{transforms, matrix}
 use Rattle.lanes.specs.Messages.{embed, extract}
 use Rattle.lanes.specs.Samplers.{uniforms, shorts}
 use Rattle.hash.specs.Fips202.{shake256, sha3-256}
+use Rattle.packets.specs.Parameters.{vector-numbers, vector-bytes, vectors-bytes, matrix-numbers, matrix-bytes}
+use Rattle.packets.specs.Parameters.{key-bytes, seed-bytes, payload-bytes}
 
 -- n bytes
 abbrev pub Bytes : ℕ → List ℕ → Type 0
@@ -31,36 +34,37 @@ pub record Packet : Type 0 where
   pub shared : List ℕ
   pub ciphertext : List ℕ
 
--- a secret key is key 32, seed 32
+-- a secret key is key, then seed
 abbrev pub key-of : List ℕ → List ℕ
-key-of sk = take 32 sk
+key-of sk = take key-bytes sk
 
 abbrev pub seed-of : List ℕ → List ℕ
-seed-of sk = part 32 32 sk
+seed-of sk = part key-bytes seed-bytes sk
 
 -- Matrix G: 9,216 bytes of SHAKE256(seed), 16 uniform ring elements, row by row, taken as already transformed
 unfoldable pub G : List ℕ → List ℕ
-G seed = uniforms 1024 (shake256 seed 9216)
+G seed = uniforms matrix-numbers (shake256 seed matrix-bytes)
 
 -- keygen: seed = SHAKE256(randomness, then byte 0), key = SHAKE256(randomness, then byte 1), 32 bytes each
 unfoldable pub secret-key : List ℕ → List ℕ
-secret-key r = shake256 (r ++ (1 ∷ [])) 32 ++ shake256 (r ++ (0 ∷ [])) 32
+secret-key r = shake256 (r ++ (1 ∷ [])) key-bytes ++ shake256 (r ++ (0 ∷ [])) seed-bytes
 
 -- enc: payload = SHAKE256(randomness), 32 bytes
 unfoldable pub payload : List ℕ → List ℕ
-payload r = shake256 r 32
+payload r = shake256 r payload-bytes
 
 module _ (count : ℕ → ℕ) where
-  -- Vectors a, c: 4,096 bytes of SHAKE256(key), first half a, second half c, four short elements each; b, d come from the payload as a, c from the key
+  -- Vectors a, c: 4,096 bytes of SHAKE256(key), first half a, second half c, four short elements each;
+  -- b, d come from the payload as a, c from the key
   unfoldable pub first : List ℕ → List ℕ
-  first k = shorts count 256 (take 2048 (shake256 k 4096))
+  first k = shorts count vector-numbers (take vector-bytes (shake256 k vectors-bytes))
 
   unfoldable pub second : List ℕ → List ℕ
-  second k = shorts count 256 (part 2048 2048 (shake256 k 4096))
+  second k = shorts count vector-numbers (part vector-bytes vector-bytes (shake256 k vectors-bytes))
 
   -- ga = G·a + c, of a matrix and a key
   unfoldable pub ga-of : List ℕ → List ℕ → List ℕ
-  ga-of g k = plus 256 (matrix 4 4 1 g (transforms 4 (first k))) (transforms 4 (second k))
+  ga-of g k = plus vector-numbers (matrix 4 4 1 g (transforms 4 (first k))) (transforms 4 (second k))
 
   -- the public key of a secret key
   unfoldable pub public-key : List ℕ → PublicKey
@@ -71,13 +75,13 @@ module _ (count : ℕ → ℕ) where
 
   -- bg = b·G + d, of a matrix and a payload
   unfoldable pub bg-of : List ℕ → List ℕ → List ℕ
-  bg-of g m = plus 256 (matrix 1 4 4 (transforms 4 (first m)) g) (transforms 4 (second m))
+  bg-of g m = plus vector-numbers (matrix 1 4 4 (transforms 4 (first m)) g) (transforms 4 (second m))
 
   -- bga_m = b·ga + embed(payload), with every vector and the embedding transformed first
   unfoldable pub bga-m-of : List ℕ → List ℕ → List ℕ
   bga-m-of ga m = plus 64 (matrix 1 4 1 (transforms 4 (first m)) ga) (transform (embed m))
 
-  -- the sealing of a payload under a public key: 320 coefficients
+  -- the sealing of a payload under a public key: bg, then bga_m
   unfoldable pub sealing : PublicKey → List ℕ → List ℕ
   sealing pk m = bg-of (G (pk .seed)) m ++ bga-m-of (pk .ga) m
 
@@ -87,7 +91,9 @@ module _ (count : ℕ → ℕ) where
 
   -- dec: extract from the inverse transform of bga_m - bg·a
   unfoldable pub extracted : List ℕ → List ℕ → List ℕ
-  extracted sk ct = extract (untransform (minus 64 (part 256 64 ct) (matrix 1 4 1 (take 256 ct) (transforms 4 (first (key-of sk))))))
+  extracted sk ct =
+      let bga = matrix 1 4 1 (take vector-numbers ct) (transforms 4 (first (key-of sk))) in
+      extract (untransform (minus 64 (part vector-numbers 64 ct) bga))
 
 -- what `dec` gives: the shared key, or refusal 3
 pub data Opened : Type 0 where
@@ -108,8 +114,8 @@ key-or differs old = old
 unfoldable pub same : ℕ → List ℕ → List ℕ → Bool
 same n s t = all (λ i. eqb (getD s i 0) (getD t i 0)) n
 
--- rebuild the public key, regenerate all 320 coefficients, compare them all
+-- rebuild the public key, regenerate all coefficients, compare them all
 unfoldable pub dec : (ℕ → ℕ) → List ℕ → List ℕ → Opened
 dec count sk ct =
     let m = extracted count sk ct in
-    pick (same 320 (sealing count (public-key count sk) m) ct) (key (sha3-256 m)) differs
+    pick (same ciphertext-numbers (sealing count (public-key count sk) m) ct) (key (sha3-256 m)) differs

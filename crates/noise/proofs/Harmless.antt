@@ -1,4 +1,4 @@
--- The noise theorem, and that its bound is sharp. Assumes nothing.
+-- The noise theorem, and that its bound is sharp.
 use mathlib.Core.Path.{_≡_, refl, sym, ap, _∙_, subst}
 use mathlib.Core.List.{List, _∷_}
 use Prim.Native.Nat.{ℕ, zero, suc, _+_, _*_, _%_, _^_, _<_}
@@ -7,7 +7,7 @@ use native.Mathlib.Omega.{arith}
 use lib.Dec.{lit<, lit≤}
 use lib.IntN.{ℤ, pos, negsuc}
 use lib.ListN.{getD, replicate}
-use Rattle.laws.specs.Lists.{tab, tabFrom, Below}
+use Rattle.laws.specs.Lists.{tab, tabFrom, Below, zeros}
 use Rattle.laws.specs.Congruence.{Cong}
 use Rattle.laws.specs.Integers.{residue}
 use Rattle.laws.proofs.Tests.{equal-at}
@@ -22,18 +22,24 @@ use Rattle.laws.specs.Bits.{bit}
 use Rattle.lanes.specs.Lanes.{placed}
 use Rattle.lanes.specs.Messages.{lifted, embed, chunk-bit, read, extracted, extract}
 use Rattle.lanes.proofs.Messages.{embed-even, embed-odd, embed-canonical}
-use Rattle.noise.specs.Lanes.{Lanes, limit, Harmless}
+use Rattle.noise.specs.Noise.{Lanes, limit, Harmless}
 use Rattle.noise.proofs.Chunks.{Noisy, reads}
 use Rattle.noise.proofs.Four.{Four, worth, On, four-of, lanes-on}
 
 -- ---- one coefficient
+-- four bits of n from h on, as a number
+abbrev nibble : ℕ → ℕ → ℕ
+nibble n h = bit n h + 2 * bit n (h + 1) + 4 * bit n (h + 2) + 8 * bit n (h + 3)
+
 -- the negative parts of the lanes brought to the other side
 apart : {b w : ℕ} (e : Four) → On b e w
-    → Cong P (w + placed (under (e .l0)) (under (e .l1)) (under (e .l2)) (under (e .l3))) (placed (over (e .l0)) (over (e .l1)) (over (e .l2)) (over (e .l3)))
+    → Cong P (w + placed (under (e .l0)) (under (e .l1)) (under (e .l2)) (under (e .l3)))
+    (placed (over (e .l0)) (over (e .l1)) (over (e .l2)) (over (e .l3)))
 unfolding worth
 apart {b} {w} e o =
     c-trans (c-add (c-sym (o .worths)) c-refl)
-    (c-trans (c-eq (gather (residue P (e .l0)) (residue P (e .l1)) (residue P (e .l2)) (residue P (e .l3)) (under (e .l0)) (under (e .l1)) (under (e .l2)) (under (e .l3))))
+    (c-trans (c-eq (gather (residue P (e .l0)) (residue P (e .l1)) (residue P (e .l2)) (residue P (e .l3))
+    (under (e .l0)) (under (e .l1)) (under (e .l2)) (under (e .l3))))
     (c-add (c-add (c-add (side (e .l0)) (c-mul c-refl (side (e .l1)))) (c-mul c-refl (side (e .l2)))) (c-mul c-refl (side (e .l3)))))
   where
     side : (z : ℤ) → Cong P (residue P z + under z) (over z)
@@ -42,7 +48,7 @@ apart {b} {w} e o =
     gather : (a b c d a' b' c' d' : ℕ) → placed a b c d + placed a' b' c' d' ≡ placed (a + a') (b + b') (c + c') (d + d')
     gather a b c d a' b' c' d' = omega arith
 
-one-coefficient : (n h w : ℕ) → Lanes limit w → read ((lifted n h + w) % P) ≡ bit n h + 2 * bit n (h + 1) + 4 * bit n (h + 2) + 8 * bit n (h + 3)
+one-coefficient : (n h w : ℕ) → Lanes limit w → read ((lifted n h + w) % P) ≡ nibble n h
 unfolding lifted
 one-coefficient n h w l =
     reads ((a + w) % P) (bit n h) (bit n (h + 1)) (bit n (h + 2)) (bit n (h + 3)) _ _ _ _ _ _ _ _
@@ -67,9 +73,9 @@ one-coefficient n h w l =
 
 -- ---- all of them
 -- a byte is its bits
-bits : (n : ℕ) → n < 256 → bit n 0 + 2 * bit n 1 + 4 * bit n 2 + 8 * bit n 3 + 16 * (bit n 4 + 2 * bit n 5 + 4 * bit n 6 + 8 * bit n 7) ≡ n
+bits : (n : ℕ) → n < 256 → nibble n 0 + 16 * nibble n 4 ≡ n
 unfolding bit
-bits n h = equal-at (λ m. bit m 0 + 2 * bit m 1 + 4 * bit m 2 + 8 * bit m 3 + 16 * (bit m 4 + 2 * bit m 5 + 4 * bit m 6 + 8 * bit m 7)) (λ m. m) 256 tt n h
+bits n h = equal-at (λ m. nibble m 0 + 16 * nibble m 4) (λ m. m) 256 tt n h
 
 plus-at : (a b : List ℕ) (k : ℕ) → k < 64 → getD (plus 64 a b) k 0 ≡ (getD a k 0 + getD b k 0) % P
 unfolding plus
@@ -80,8 +86,7 @@ pub noise-theorem : Harmless limit
 unfolding extract
 noise-theorem m w bytes coefficients small = sym (is-tab 32 (λ i. extracted (plus 64 (embed m) w) i) 0 m (bytes .size) (λ i h. sym (at i h)))
   where
-    half : (k n h : ℕ) → k < 64 → getD (embed m) k 0 ≡ lifted n h
-        → read (getD (plus 64 (embed m) w) k 0) ≡ bit n h + 2 * bit n (h + 1) + 4 * bit n (h + 2) + 8 * bit n (h + 3)
+    half : (k n h : ℕ) → k < 64 → getD (embed m) k 0 ≡ lifted n h → read (getD (plus 64 (embed m) w) k 0) ≡ nibble n h
     half k n h q e =
         ap read (plus-at (embed m) w k q ∙ ap (λ (x : ℕ). (x + getD w k 0) % P) e) ∙ one-coefficient n h (getD w k 0) (small k q)
 
@@ -91,9 +96,6 @@ noise-theorem m w bytes coefficients small = sym (is-tab 32 (λ i. extracted (pl
         ∙ bits (getD m i 0) (bytes .each i)
 
 -- ---- no noise
-zeros : List ℕ
-zeros = tab 64 (λ k. 0)
-
 no-lanes : (b : ℕ) → Lanes b 0
 unfolding residue
 no-lanes b = record {
@@ -112,12 +114,17 @@ no-lanes b = record {
 pub extract-embed : (payload : List ℕ) → Below 256 32 payload → extract (embed payload) ≡ payload
 unfolding zeros plus
 extract-embed m bytes =
-    ap extract (is-tab 64 _ 0 (embed m) (canonical .size) (λ k h.
-    sym (ap (λ (x : ℕ). (getD (embed m) k 0 + x) % P) (getD-tab 64 (λ k. 0) 0 k h) ∙ ap (λ (x : ℕ). x % P) (add-zero (getD (embed m) k 0)) ∙ mod-eq-of-lt (canonical .each k))))
-    ∙ noise-theorem m zeros bytes (tab-below P 64 (λ k. 0) (lit< tt) (λ k h. lit< tt)) (λ k h. subst (λ (x : ℕ). Lanes limit x) (sym (getD-tab 64 (λ k. 0) 0 k h)) (no-lanes limit))
+    ap extract (is-tab 64 _ 0 (embed m) (canonical .size) (λ k h. sym (unchanged k h)))
+    ∙ noise-theorem m (zeros 64) bytes (tab-below P 64 (λ k. 0) (lit< tt) (λ k h. lit< tt)) (λ k h. rw (zero-at k h) (no-lanes limit))
   where
     canonical : Coefficients 64 (embed m)
     canonical = embed-canonical m
+
+    zero-at : (k : ℕ) → k < 64 → getD (zeros 64) k 0 ≡ 0
+    zero-at k h = unfold zeros in getD-tab 64 (λ i. 0) 0 k h
+
+    unchanged : (k : ℕ) → k < 64 → (getD (embed m) k 0 + getD (zeros 64) k 0) % P ≡ getD (embed m) k 0
+    unchanged k h = rw (zero-at k h, add-zero) (mod-eq-of-lt (canonical .each k))
 
 -- ---- the bound is sharp: on a payload of zeros the lanes 0, -1, -16382, -1 in coefficient 0 turn bit 2 (document 01's table)
 unfoldable pub turning : ℕ → ℕ

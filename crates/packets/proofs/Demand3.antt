@@ -1,15 +1,17 @@
--- Demand 3: `demand-3`. The heart is `extracted-sealing`: what `dec` extracts from a sealing under the key's own public key. Assumes nothing.
+-- Demand 3: `demand-3`. The heart is `extracted-sealing`: what `dec` extracts from a sealing under the key's own public key.
 use mathlib.Core.Path.{_≡_, refl, sym, ap, ap₂, _∙_, subst}
 use mathlib.Core.Bool.{Bool, true, false}
 use mathlib.Core.Logic.{_↔_}
-use mathlib.Core.List.{List, [], _∷_}
+use mathlib.Core.List.{List, _++_}
 use Prim.Native.Nat.{ℕ, _+_, _*_, _<_}
 use native.Mathlib.Omega.{arith}
 use lib.Dec.{T, eqb, eqb→eq, eqb-refl}
 use lib.ListN.{length, getD, take}
 use lib.Seq.{ext-getD, take-at, drop-at, take-all}
 use Rattle.laws.specs.Choices.{pick}
+use Rattle.laws.specs.Lists.{part}
 use Rattle.laws.proofs.Tests.{all, all-at, all-of}
+use Rattle.codec.specs.Sizes.{secret-key-bytes, ciphertext-numbers}
 use Rattle.field.specs.Field.{Coefficients}
 use Rattle.ring.specs.Transform.{transform, untransform}
 use Rattle.ring.specs.Elements.{plus, minus}
@@ -20,10 +22,12 @@ use Rattle.ring.proofs.Products.{minus-canonical}
 use Rattle.lanes.specs.Messages.{embed, extract}
 use Rattle.lanes.specs.Samplers.{ones}
 use Rattle.lanes.proofs.Messages.{embed-canonical, extract-bytes}
-use Rattle.noise.specs.Lanes.{noise}
-use Rattle.noise.proofs.Noise.{noise-theorem}
+use Rattle.noise.specs.Noise.{noise}
+use Rattle.noise.proofs.Harmless.{noise-theorem}
 use Rattle.hash.specs.Fips202.{sha3-256}
-use Rattle.packets.specs.Packets.{Bytes, key-of, seed-of, PublicKey, G, first, second, public-key, bg-of, bga-m-of, sealing, extracted, Opened, key, differs, same, dec}
+use Rattle.packets.specs.Parameters.{vector-numbers, payload-bytes}
+use Rattle.packets.specs.Packets.{Bytes, key-of, seed-of, PublicKey, G, first, second, public-key, bg-of, bga-m-of, sealing, extracted}
+use Rattle.packets.specs.Packets.{Opened, key, differs, same, dec}
 use Rattle.packets.specs.Demand3.{noise-of, Read, Quiet, Opens, Demand3}
 use Rattle.packets.proofs.Products.{ga-cell, bg-cell, bga-m-row}
 use Rattle.packets.proofs.Sizes.{first-cell, second-cell, bg-canonical, bga-m-canonical, sealing-canonical}
@@ -83,20 +87,35 @@ module _ (count : ℕ → ℕ) where
     unfolding public-key
     bga-m-is =
         bga-m-row count (pk .ga) m
-        ∙ ap (λ (l : List ℕ). plus 64 l (transform (embed m))) (dot-ext 4 _ _ _ _ (λ q l. refl) (λ q l. ga-cell count G-sk (key-of sk) q l))
+        ∙ ap (λ (l : List ℕ). plus 64 l (transform (embed m)))
+        (dot-ext 4 _ _ _ _ (λ q l. refl) (λ q l. ga-cell count G-sk (key-of sk) q l))
+
+    -- its two parts, as `dec` takes them
+    abbrev sealed-bg : List ℕ
+    sealed-bg = bg-of count G-sk m
+
+    abbrev sealed-bga-m : List ℕ
+    sealed-bga-m = bga-m-of count (pk .ga) m
+
+    abbrev key-vector : List ℕ
+    key-vector = transforms 4 (first count (key-of sk))
+
+    front : take vector-numbers (sealed-bg ++ sealed-bga-m) ≡ sealed-bg
+    front = take-at sealed-bg sealed-bga-m vector-numbers (bg-canonical count G-sk m .size)
+
+    behind : part vector-numbers 64 (sealed-bg ++ sealed-bga-m) ≡ bga-m 4 4 g a b c d (embed m)
+    behind =
+        ap (take 64) (drop-at sealed-bg sealed-bga-m vector-numbers (bg-canonical count G-sk m .size))
+        ∙ take-all 64 sealed-bga-m (omega (arith, bga-m-canonical count (pk .ga) m .size)) ∙ bga-m-is
 
     -- what `dec` extracts from it: what extraction reads from embed(payload) + b·c - d·a
     pub extracted-sealing : extracted count sk (sealing count pk m) ≡ extract (plus 64 (embed m) (noise-of count sk m))
     unfolding extracted sealing noise-of noise public-key
     extracted-sealing =
-        ap (λ (l : List ℕ). extract (untransform l)) (ap₂ (minus 64)
-        (ap (take 64) (drop-at (bg-of count G-sk m) (bga-m-of count (pk .ga) m) 256 (bg-canonical count G-sk m .size))
-        ∙ take-all 64 (bga-m-of count (pk .ga) m) (omega (arith, bga-m-canonical count (pk .ga) m .size)) ∙ bga-m-is)
-        (ap (λ (l : List ℕ). matrix 1 4 1 l (transforms 4 (first count (key-of sk)))) (take-at (bg-of count G-sk m) (bga-m-of count (pk .ga) m) 256 (bg-canonical count G-sk m .size))
-        ∙ matrix-single 4 (bg-of count G-sk m) (transforms 4 (first count (key-of sk)))
-        ∙ dot-ext 4 _ _ _ _ bg-is (λ q l. cell-transforms 4 (first count (key-of sk)) q l)))
-        ∙ ap extract (opened 4 4 g a b c d (embed m) (λ i h. first-cell count (key-of sk) i) (λ i h. first-cell count m i) (λ i h. second-cell count (key-of sk) i)
-        (λ i h. second-cell count m i) (embed-canonical m))
+        ap (λ (l : List ℕ). extract (untransform l)) (ap₂ (minus 64) behind
+        (rw front (matrix-single 4 sealed-bg key-vector ∙ dot-ext 4 _ _ _ _ bg-is (λ q l. cell-transforms 4 (first count (key-of sk)) q l))))
+        ∙ ap extract (opened 4 4 g a b c d (embed m) (λ i h. first-cell count (key-of sk) i) (λ i h. first-cell count m i)
+        (λ i h. second-cell count (key-of sk) i) (λ i h. second-cell count m i) (embed-canonical m))
 
   -- ---- such a payload is the one that `dec` extracts
   opens-extracted : (sk ct m : List ℕ) → Opens count sk ct m → extracted count sk ct ≡ m
@@ -106,31 +125,31 @@ module _ (count : ℕ → ℕ) where
   unfolding dec
   its-key-is sk ct m o =
       let e = opens-extracted sk ct m o in
-      key-yes (same 320 (sealing count (public-key count sk) (extracted count sk ct)) ct) _
-      (subst (λ (l : List ℕ). T (same 320 l ct)) (sym (ap (sealing count (public-key count sk)) e ∙ o .sealed)) (same-refl 320 ct))
-      ∙ ap (λ l. key (sha3-256 l)) e
+      rw e (key-yes (same ciphertext-numbers (sealing count (public-key count sk) m) ct) _ (rw (o .sealed) (same-refl ciphertext-numbers ct)))
 
-  opens-if : (sk ct k : List ℕ) → length ct ≡ 320 → dec count sk ct ≡ key k → Opens count sk ct (extracted count sk ct)
+  opens-if : (sk ct k : List ℕ) → length ct ≡ ciphertext-numbers → dec count sk ct ≡ key k → Opens count sk ct (extracted count sk ct)
   unfolding dec extracted
   opens-if sk ct k h e =
       let m : List ℕ = extracted count sk ct in
       let s : sealing count (public-key count sk) m ≡ ct =
-      same-is 320 _ ct (sealing-canonical count (public-key count sk) m .size) h (yes-key (same 320 (sealing count (public-key count sk) m) ct) (sha3-256 m) k e) in
+      same-is ciphertext-numbers _ ct (sealing-canonical count (public-key count sk) m .size) h
+      (yes-key (same ciphertext-numbers (sealing count (public-key count sk) m) ct) (sha3-256 m) k e) in
       record { payload = extract-bytes _; sealed = s; read = sym (extracted-sealing sk m) ∙ ap (extracted count sk) s }
 
   -- `dec` answers and the extracted payload is m, exactly when m opens
-  pub opens-as : (sk ct m : List ℕ) → length ct ≡ 320 → ((k : List ℕ) × (dec count sk ct ≡ key k) × (extracted count sk ct ≡ m)) ↔ Opens count sk ct m
+  pub opens-as : (sk ct m : List ℕ) → length ct ≡ ciphertext-numbers
+      → ((k : List ℕ) × (dec count sk ct ≡ key k) × (extracted count sk ct ≡ m)) ↔ Opens count sk ct m
   opens-as sk ct m h = (
     (λ o. subst (Opens count sk ct) (o .2) (opens-if sk ct (o .0) h (o .1))),
     (λ o. (sha3-256 m, its-key-is sk ct m o, opens-extracted sk ct m o)),
   )
 
-  pub quiet-read : (sk m : List ℕ) → Bytes 32 m → Quiet count sk m → Read count sk m
+  pub quiet-read : (sk m : List ℕ) → Bytes payload-bytes m → Quiet count sk m → Read count sk m
   unfolding noise-of noise
   quiet-read sk m h q = noise-theorem m (noise-of count sk m) h (minus-canonical 64 _ _) q
 
-  -- for every 64-byte secret key and every ciphertext of 320 coefficients below p; of the premises only the ciphertext's length is used
-  pub demand3 : (sk ct : List ℕ) → Bytes 64 sk → Coefficients 320 ct → Demand3 count sk ct
+  -- for every secret key and every ciphertext of canonical coefficients; of the premises only the ciphertext's length is used
+  pub demand3 : (sk ct : List ℕ) → Bytes secret-key-bytes sk → Coefficients ciphertext-numbers ct → Demand3 count sk ct
   demand3 sk ct hsk hct = record {
     exactly = (
       (λ o. (extracted count sk ct, opens-if sk ct (o .0) (hct .size) (o .1))),
@@ -142,5 +161,5 @@ module _ (count : ℕ → ℕ) where
   }
 
 -- DEMAND 3, with the Rust's sampler
-pub demand-3 : (sk ct : List ℕ) → Bytes 64 sk → Coefficients 320 ct → Demand3 ones sk ct
+pub demand-3 : (sk ct : List ℕ) → Bytes secret-key-bytes sk → Coefficients ciphertext-numbers ct → Demand3 ones sk ct
 demand-3 = demand3 ones
