@@ -8,23 +8,22 @@ mod question; // a question, read
 mod tell; // an answer, written
 
 ghost use Prim.Native.Nat.{_≤_, _<_};
-use libc::STDIN_FILENO;
 
 // No run has more questions.
 const MOST: u64 = 100_000_000;
 
 // Reads and answers one question; false where there is none left, or an unknown one.
 fn answer_next() -> bool {
-    let mut name = [0u8; 4];
-    if io::read_full(STDIN_FILENO, &mut name) < 4 {
+    let call = test_lines::read_name();
+    if call == 0 {
         return false;
     }
-    let q = question::read(lines::word(&name));
+    let q = question::read(call);
     if !parts::answer(q) && !packets::answer(q) && !jobs::answer(q) {
         return false;
     }
-    lines::end_line();
-    lines::read_end()
+    test_lines::end_line();
+    test_lines::read_end()
 }
 
 fn main() {

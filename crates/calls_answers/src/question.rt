@@ -26,8 +26,8 @@ fn read_argument() -> Argument {
     let mut text = [0u8; 22];
     io::read_full(STDIN_FILENO, &mut text);
     Argument {
-        length: lines::number(&text[1..5]) as usize,
-        seed: lines::number(&text[6..22]),
+        length: test_lines::number(&text[1..5]) as usize,
+        seed: test_lines::number(&text[6..22]),
     }
 }
 
@@ -35,9 +35,9 @@ fn read_place() -> Place {
     let mut text = [0u8; 24];
     io::read_full(STDIN_FILENO, &mut text);
     Place {
-        argument: lines::number(&text[1..2]),
-        index: lines::number(&text[3..7]) as usize,
-        value: lines::number(&text[8..24]),
+        argument: test_lines::number(&text[1..2]),
+        index: test_lines::number(&text[3..7]) as usize,
+        value: test_lines::number(&text[8..24]),
     }
 }
 

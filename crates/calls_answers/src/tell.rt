@@ -8,10 +8,10 @@ use refusals::Refusal;
 fn refusal(r: Refusal) {
     let record = r.record();
     io::write_all(STDOUT_FILENO, b"refused ");
-    io::print_hex(STDOUT_FILENO, lines::wide(record.number), 2);
-    lines::space();
-    io::print_hex(STDOUT_FILENO, lines::wide(record.argument), 2);
-    lines::space();
+    io::print_hex(STDOUT_FILENO, test_lines::wide(record.number), 2);
+    test_lines::space();
+    io::print_hex(STDOUT_FILENO, test_lines::wide(record.argument), 2);
+    test_lines::space();
     io::print_hex(STDOUT_FILENO, record.place, 16);
 }
 
@@ -46,15 +46,15 @@ pub fn done(answer: Answer, outputs_kept: bool) -> bool {
 
 pub fn numbers(s: &[u64]) {
     for i in 0..s.len() {
-        lines::space();
+        test_lines::space();
         io::print_hex(STDOUT_FILENO, s[i], 16);
     }
 }
 
 pub fn bytes(s: &[u8]) {
-    lines::space();
+    test_lines::space();
     for i in 0..s.len() {
-        io::print_hex(STDOUT_FILENO, lines::wide(s[i]), 2);
+        io::print_hex(STDOUT_FILENO, test_lines::wide(s[i]), 2);
     }
 }
 
