@@ -12,7 +12,7 @@ use Rattle.refusals.specs.declared.Given.{Given}
 use Rattle.refusals.specs.declared.Given.the-variants.{Value, NotGiven}
 use Rattle.refusals.specs.declared.Answer.{Answer}
 use Rattle.refusals.specs.declared.Answer.the-variants.{Done, Refused}
-use Rattle.galmuriec_c.specs.Boundary.{status, entry, given, Reports, Leaves, Gives}
+use Rattle.galmuriec_c.specs.Boundary.{status, entry, given, Reports, Leaves, Delivers}
 
 -- ---- an answer reported
 pub reports-done : (v : Answer) → v ≡ Done → Reports (said v) 0 (0 ∷ 0 ∷ 0 ∷ [])
@@ -20,39 +20,44 @@ unfolding status entry
 reports-done v e = rw e (record { returned = refl; recorded = refl })
 
 -- m and b are the record's first two numbers, made wider
-pub reports-no : (v : Answer) (r : Refusal) (n a i m b : ℕ) → v ≡ Refused r → sign n a i ≡ paper r → m ≡ n → b ≡ a → Reports (said v) m (m ∷ b ∷ i ∷ [])
+pub reports-no : (v : Answer) (r : Refusal) (n a i m b : ℕ) → v ≡ Refused r → sign n a i ≡ paper r → m ≡ n → b ≡ a
+    → Reports (said v) m (m ∷ b ∷ i ∷ [])
 unfolding status entry
 reports-no v r n a i m b e f g h = rw (e, ← f, g, h) (record { returned = refl; recorded = refl })
 
 -- ---- a number given, or not
-pub gives-value : (g : Given) (x s : ℕ) (refusal : List ℕ) (old : ℕ) → g ≡ Value x → Reports (said Done) s refusal → Gives (told g) s refusal old x
+pub delivers-value : (g : Given) (x s : ℕ) (refusal : List ℕ) (old : ℕ) → g ≡ Value x → Reports (said Done) s refusal
+    → Delivers (told g) s refusal old x
 unfolding given status entry
-gives-value g x s refusal old e f = rw e (record { reports = record { returned = f .returned; recorded = f .recorded }; number = refl })
+delivers-value g x s refusal old e f = rw e (record { reports = record { returned = f .returned; recorded = f .recorded }; number = refl })
 
-pub gives-no : (g : Given) (r : Refusal) (s : ℕ) (refusal : List ℕ) (old : ℕ) → g ≡ NotGiven r → Reports (said (Refused r)) s refusal → Gives (told g) s refusal old old
+pub delivers-none : (g : Given) (r : Refusal) (s : ℕ) (refusal : List ℕ) (old : ℕ) → g ≡ NotGiven r → Reports (said (Refused r)) s refusal
+    → Delivers (told g) s refusal old old
 unfolding given
-gives-no g r s refusal old e f = rw e (record { reports = f; number = refl })
+delivers-none g r s refusal old e f = rw e (record { reports = f; number = refl })
 
--- ---- the end of a call: from what the call behind it promises of its answer
-pub gives-told : (u t : Told) (s : ℕ) (refusal : List ℕ) (old new : ℕ) → u ≡ t → Gives u s refusal old new → Gives t s refusal old new
-gives-told u t s refusal old new e f = rw (← e) f
+-- ---- the end of a call, for search: from what the call behind it promises of its answer
+pub delivered : (args : List Asked) (g u t : Told) (s : ℕ) (refusal : List ℕ) (old new : ℕ) → Call args g u [] [] → Delivers u s refusal old new
+    → t ≡ tells args g → Delivers t s refusal old new
+delivered args g u t s refusal old new c f e = rw (e, ← c .answered) f
 
-pub leaves : (args : List Asked) (given u : Told) (s : ℕ) (refusal : List ℕ) (lent : List Lent) (new : List (List ℕ)) → Call args given u lent new → Reports u s refusal
-    → Leaves (tells args given) s refusal lent new
-leaves args given u s refusal lent new c g = record { reports = rw (← c .answered) g; buffers = c .buffers }
+pub left-behind : (args : List Asked) (g u t : Told) (s : ℕ) (refusal : List ℕ) (lent : List Lent) (new : List (List ℕ)) → Call args g u lent new
+    → Reports u s refusal → t ≡ tells args g → Leaves t s refusal lent new
+left-behind args g u t s refusal lent new c f e = rw e (record { reports = rw (← c .answered) f; buffers = c .buffers })
 
 -- ---- two outcomes that a contract allows are the same
 pub reports-one : (t : Told) (s s′ : ℕ) (l l′ : List ℕ) → Reports t s l → Reports t s′ l′ → (s ≡ s′) × (l ≡ l′)
 reports-one t s s′ l l′ f g = (f .returned ∙ sym (g .returned), f .recorded ∙ sym (g .recorded))
 
-pub leaves-one : (t : Told) (s s′ : ℕ) (l l′ : List ℕ) (lent : List Lent) (new new′ : List (List ℕ)) → Leaves t s l lent new → Leaves t s′ l′ lent new′
-    → (s ≡ s′) × (l ≡ l′) × (new ≡ new′)
+pub leaves-one : (t : Told) (s s′ : ℕ) (l l′ : List ℕ) (lent : List Lent) (new new′ : List (List ℕ)) → Leaves t s l lent new
+    → Leaves t s′ l′ lent new′ → (s ≡ s′) × (l ≡ l′) × (new ≡ new′)
 leaves-one t s s′ l l′ lent new new′ f g =
     let r = reports-one t s s′ l l′ (f .reports) (g .reports) in
     (r .0, r .1, f .buffers ∙ sym (g .buffers))
 
-pub gives-one : (t : Told) (s s′ : ℕ) (l l′ : List ℕ) (old new new′ : ℕ) → Gives t s l old new → Gives t s′ l′ old new′ → (s ≡ s′) × (l ≡ l′) × (new ≡ new′)
-gives-one t s s′ l l′ old new new′ f g =
+pub delivers-one : (t : Told) (s s′ : ℕ) (l l′ : List ℕ) (old new new′ : ℕ) → Delivers t s l old new → Delivers t s′ l′ old new′
+    → (s ≡ s′) × (l ≡ l′) × (new ≡ new′)
+delivers-one t s s′ l l′ old new new′ f g =
     let r = reports-one t s s′ l l′ (f .reports) (g .reports) in
     (r .0, r .1, f .number ∙ sym (g .number))
 

@@ -1,5 +1,5 @@
 -- What a caller in another language gets of what a call tells: a returned number, the refusal's record as three numbers, and the lent
--- buffers. Document 01, "When a call says no".
+-- buffers. Document 01, "When a call says no". CallC, FillsC, FillsTwoC and GivesC are the promises of crate refusals as a caller in C sees them.
 use mathlib.Core.Path.{_≡_}
 use mathlib.Core.List.{List, [], _∷_}
 use Prim.Native.Nat.{ℕ}
@@ -23,21 +23,31 @@ given (gives []) old = old
 given (gives (x ∷ xs)) old = x
 given (refuses r) old = old
 
--- a call of which t is told returns r and leaves this refusal record
+-- a call of which t is told returns r and leaves this refusal record,
 pub record Reports (t : Told) (r : ℕ) (refusal : List ℕ) : Type 0 where
   pub returned : r ≡ status t
   pub recorded : refusal ≡ entry t
 
--- and these contents of the lent buffers
+-- and these contents of the lent buffers,
 pub record Leaves (t : Told) (r : ℕ) (refusal : List ℕ) (lent : List Lent) (new : List (List ℕ)) : Type 0 where
   pub reports : Reports t r refusal
   pub buffers : new ≡ left t lent
 
--- a call that fills one buffer
-abbrev pub Fills : List Asked → ℕ → List ℕ → List ℕ → List ℕ → List ℕ → Type 0
-Fills args r refusal old new result = Leaves (tells args fine) r refusal (into old result ∷ []) (new ∷ [])
-
 -- or turns a lent number from old to new
-pub record Gives (t : Told) (r : ℕ) (refusal : List ℕ) (old new : ℕ) : Type 0 where
+pub record Delivers (t : Told) (r : ℕ) (refusal : List ℕ) (old new : ℕ) : Type 0 where
   pub reports : Reports t r refusal
   pub number : new ≡ given t old
+
+-- ---- the promises
+abbrev pub CallC : List Asked → Told → ℕ → List ℕ → List Lent → List (List ℕ) → Type 0
+CallC args given r refusal lent new = Leaves (tells args given) r refusal lent new
+
+abbrev pub FillsC : List Asked → ℕ → List ℕ → List ℕ → List ℕ → List ℕ → Type 0
+FillsC args r refusal old new result = CallC args fine r refusal (into old result ∷ []) (new ∷ [])
+
+abbrev pub FillsTwoC : List Asked → ℕ → List ℕ → List ℕ → List ℕ → List ℕ → List ℕ → List ℕ → List ℕ → Type 0
+FillsTwoC args r refusal old new result old′ new′ result′ =
+    CallC args fine r refusal (into old result ∷ into old′ result′ ∷ []) (new ∷ new′ ∷ [])
+
+abbrev pub GivesC : List Asked → ℕ → List ℕ → ℕ → ℕ → ℕ → Type 0
+GivesC args r refusal old new x = Delivers (tells args (gives (x ∷ []))) r refusal old new

@@ -21,7 +21,7 @@ ghost use Rattle.packets.specs.Packets as packets;
 ghost use Rattle.packets.specs.Layout.{public-bytes, public-of};
 ghost use Rattle.kem_calls.specs.Opened.{opened-told, opened-key};
 ghost use Rattle.job_calls.specs.Jobs.{job-answer, Writes};
-ghost use Rattle.galmuriec_c.specs.Boundary.{Reports, Leaves, Fills, Gives};
+ghost use Rattle.galmuriec_c.specs.Boundary.{Reports, Delivers, CallC, FillsC, FillsTwoC, GivesC};
 use refusals::Answer;
 use refusals::Given;
 
@@ -48,7 +48,7 @@ fn report(answer: Answer, refusal: &mut [u64; 3]) -> u64
 
 // The same, and the number given.
 fn deliver(answer: Given, result: &mut u64, refusal: &mut [u64; 3]) -> u64
-    ensures { λ r. ⌜ Gives (told answer) r (now (refusal .exit)) (now (result .entry)) (now (result .exit)) ⌝ }
+    ensures { λ r. ⌜ Delivers (told answer) r (now (refusal .exit)) (now (result .entry)) (now (result .exit)) ⌝ }
 {
     match answer {
         Given::NotGiven(r) => report(Answer::Refused(r), refusal),
@@ -70,7 +70,8 @@ pub extern "C" fn galmuriec_field_new(x: u64) -> u64
 
 #[no_mangle]
 pub extern "C" fn galmuriec_field_value(x: u64, result: &mut u64, refusal: &mut [u64; 3]) -> u64
-    ensures { λ r. ⌜ Gives (tells (asks.field-value x) (gives (x ∷ []))) r (now (refusal .exit)) (now (result .entry)) (now (result .exit)) ⌝ }
+    ensures { λ r. ⌜ GivesC (asks.field-value x) r (now (refusal .exit))
+        (now (result .entry)) (now (result .exit)) x ⌝ }
 {
     deliver(galmuriec::field::value(x), result, refusal)
 }
@@ -82,7 +83,8 @@ pub extern "C" fn galmuriec_field_add(
     result: &mut u64,
     refusal: &mut [u64; 3],
 ) -> u64
-    ensures { λ r. ⌜ Gives (tells (asks.field-add a b) (gives ((a + b) % P ∷ []))) r (now (refusal .exit)) (now (result .entry)) (now (result .exit)) ⌝ }
+    ensures { λ r. ⌜ GivesC (asks.field-add a b) r (now (refusal .exit))
+        (now (result .entry)) (now (result .exit)) ((a + b) % P) ⌝ }
 {
     deliver(galmuriec::field::add(a, b), result, refusal)
 }
@@ -94,7 +96,8 @@ pub extern "C" fn galmuriec_field_sub(
     result: &mut u64,
     refusal: &mut [u64; 3],
 ) -> u64
-    ensures { λ r. ⌜ Gives (tells (asks.field-sub a b) (gives ((a + (P - b)) % P ∷ []))) r (now (refusal .exit)) (now (result .entry)) (now (result .exit)) ⌝ }
+    ensures { λ r. ⌜ GivesC (asks.field-sub a b) r (now (refusal .exit))
+        (now (result .entry)) (now (result .exit)) ((a + (P - b)) % P) ⌝ }
 {
     deliver(galmuriec::field::sub(a, b), result, refusal)
 }
@@ -106,21 +109,24 @@ pub extern "C" fn galmuriec_field_mul(
     result: &mut u64,
     refusal: &mut [u64; 3],
 ) -> u64
-    ensures { λ r. ⌜ Gives (tells (asks.field-mul a b) (gives (a * b % P ∷ []))) r (now (refusal .exit)) (now (result .entry)) (now (result .exit)) ⌝ }
+    ensures { λ r. ⌜ GivesC (asks.field-mul a b) r (now (refusal .exit))
+        (now (result .entry)) (now (result .exit)) (a * b % P) ⌝ }
 {
     deliver(galmuriec::field::mul(a, b), result, refusal)
 }
 
 #[no_mangle]
 pub extern "C" fn galmuriec_field_neg(a: u64, result: &mut u64, refusal: &mut [u64; 3]) -> u64
-    ensures { λ r. ⌜ Gives (tells (asks.field-neg a) (gives ((P - a) % P ∷ []))) r (now (refusal .exit)) (now (result .entry)) (now (result .exit)) ⌝ }
+    ensures { λ r. ⌜ GivesC (asks.field-neg a) r (now (refusal .exit))
+        (now (result .entry)) (now (result .exit)) ((P - a) % P) ⌝ }
 {
     deliver(galmuriec::field::neg(a), result, refusal)
 }
 
 #[no_mangle]
 pub extern "C" fn galmuriec_field_inverse(a: u64, result: &mut u64, refusal: &mut [u64; 3]) -> u64
-    ensures { λ r. ⌜ Gives (tells (asks.field-inverse a) (inverse-told a)) r (now (refusal .exit)) (now (result .entry)) (now (result .exit)) ⌝ }
+    ensures { λ r. ⌜ Delivers (tells (asks.field-inverse a) (inverse-told a)) r (now (refusal .exit))
+        (now (result .entry)) (now (result .exit)) ⌝ }
 {
     deliver(galmuriec::field::inverse(a), result, refusal)
 }
@@ -132,7 +138,8 @@ pub extern "C" fn galmuriec_field_mod_pow(
     result: &mut u64,
     refusal: &mut [u64; 3],
 ) -> u64
-    ensures { λ r. ⌜ Gives (tells (asks.field-mod-pow a) (gives (a ^ exp % P ∷ []))) r (now (refusal .exit)) (now (result .entry)) (now (result .exit)) ⌝ }
+    ensures { λ r. ⌜ GivesC (asks.field-mod-pow a) r (now (refusal .exit))
+        (now (result .entry)) (now (result .exit)) (a ^ exp % P) ⌝ }
 {
     deliver(galmuriec::field::mod_pow(a, exp), result, refusal)
 }
@@ -140,7 +147,7 @@ pub extern "C" fn galmuriec_field_mod_pow(
 // ---- ring elements of 64 numbers, and matrices of them
 #[no_mangle]
 pub extern "C" fn galmuriec_coset_ntt_noswap_64(array: &mut [u64], refusal: &mut [u64; 3]) -> u64
-    ensures { λ r. ⌜ Fills (asks.coset-ntt-noswap-64 (now (array .entry))) r (now (refusal .exit)) (now (array .entry)) (now (array .exit))
+    ensures { λ r. ⌜ FillsC (asks.coset-ntt-noswap-64 (now (array .entry))) r (now (refusal .exit)) (now (array .entry)) (now (array .exit))
         (transform (now (array .entry))) ⌝ }
 {
     report(galmuriec::ring::coset_ntt_noswap_64(array), refusal)
@@ -148,7 +155,7 @@ pub extern "C" fn galmuriec_coset_ntt_noswap_64(array: &mut [u64], refusal: &mut
 
 #[no_mangle]
 pub extern "C" fn galmuriec_coset_intt_noswap_64(array: &mut [u64], refusal: &mut [u64; 3]) -> u64
-    ensures { λ r. ⌜ Fills (asks.coset-intt-noswap-64 (now (array .entry))) r (now (refusal .exit)) (now (array .entry)) (now (array .exit))
+    ensures { λ r. ⌜ FillsC (asks.coset-intt-noswap-64 (now (array .entry))) r (now (refusal .exit)) (now (array .entry)) (now (array .exit))
         (untransform (now (array .entry))) ⌝ }
 {
     report(galmuriec::ring::coset_intt_noswap_64(array), refusal)
@@ -161,7 +168,7 @@ pub extern "C" fn galmuriec_ring_add(
     out: &mut [u64],
     refusal: &mut [u64; 3],
 ) -> u64
-    ensures { λ r. ⌜ Fills (asks.ring-add (now (lhs .entry)) (now (rhs .entry)) (length (now (out .entry)))) r
+    ensures { λ r. ⌜ FillsC (asks.ring-add (now (lhs .entry)) (now (rhs .entry)) (length (now (out .entry)))) r
         (now (refusal .exit)) (now (out .entry)) (now (out .exit)) (plus 64 (now (lhs .entry)) (now (rhs .entry))) ⌝ }
 {
     report(galmuriec::ring::add(lhs, rhs, out), refusal)
@@ -174,7 +181,7 @@ pub extern "C" fn galmuriec_ring_sub(
     out: &mut [u64],
     refusal: &mut [u64; 3],
 ) -> u64
-    ensures { λ r. ⌜ Fills (asks.ring-sub (now (lhs .entry)) (now (rhs .entry)) (length (now (out .entry)))) r
+    ensures { λ r. ⌜ FillsC (asks.ring-sub (now (lhs .entry)) (now (rhs .entry)) (length (now (out .entry)))) r
         (now (refusal .exit)) (now (out .entry)) (now (out .exit)) (minus 64 (now (lhs .entry)) (now (rhs .entry))) ⌝ }
 {
     report(galmuriec::ring::sub(lhs, rhs, out), refusal)
@@ -187,7 +194,7 @@ pub extern "C" fn galmuriec_ring_mul(
     out: &mut [u64],
     refusal: &mut [u64; 3],
 ) -> u64
-    ensures { λ r. ⌜ Fills (asks.ring-mul (now (lhs .entry)) (now (rhs .entry)) (length (now (out .entry)))) r
+    ensures { λ r. ⌜ FillsC (asks.ring-mul (now (lhs .entry)) (now (rhs .entry)) (length (now (out .entry)))) r
         (now (refusal .exit)) (now (out .entry)) (now (out .exit)) (product (now (lhs .entry)) (now (rhs .entry))) ⌝ }
 {
     report(galmuriec::ring::mul(lhs, rhs, out), refusal)
@@ -200,7 +207,7 @@ pub extern "C" fn galmuriec_matrix_times_column(
     out: &mut [u64],
     refusal: &mut [u64; 3],
 ) -> u64
-    ensures { λ r. ⌜ Fills (asks.matrix-times-column (now (lhs .entry)) (now (rhs .entry)) (length (now (out .entry)))) r
+    ensures { λ r. ⌜ FillsC (asks.matrix-times-column (now (lhs .entry)) (now (rhs .entry)) (length (now (out .entry)))) r
         (now (refusal .exit)) (now (out .entry)) (now (out .exit)) (matrix 4 4 1 (now (lhs .entry)) (now (rhs .entry))) ⌝ }
 {
     report(
@@ -216,7 +223,7 @@ pub extern "C" fn galmuriec_row_times_matrix(
     out: &mut [u64],
     refusal: &mut [u64; 3],
 ) -> u64
-    ensures { λ r. ⌜ Fills (asks.row-times-matrix (now (lhs .entry)) (now (rhs .entry)) (length (now (out .entry)))) r
+    ensures { λ r. ⌜ FillsC (asks.row-times-matrix (now (lhs .entry)) (now (rhs .entry)) (length (now (out .entry)))) r
         (now (refusal .exit)) (now (out .entry)) (now (out .exit)) (matrix 1 4 4 (now (lhs .entry)) (now (rhs .entry))) ⌝ }
 {
     report(galmuriec::matrix::row_times_matrix(lhs, rhs, out), refusal)
@@ -229,7 +236,7 @@ pub extern "C" fn galmuriec_row_times_column(
     out: &mut [u64],
     refusal: &mut [u64; 3],
 ) -> u64
-    ensures { λ r. ⌜ Fills (asks.row-times-column (now (lhs .entry)) (now (rhs .entry)) (length (now (out .entry)))) r
+    ensures { λ r. ⌜ FillsC (asks.row-times-column (now (lhs .entry)) (now (rhs .entry)) (length (now (out .entry)))) r
         (now (refusal .exit)) (now (out .entry)) (now (out .exit)) (matrix 1 4 1 (now (lhs .entry)) (now (rhs .entry))) ⌝ }
 {
     report(galmuriec::matrix::row_times_column(lhs, rhs, out), refusal)
@@ -242,8 +249,8 @@ pub extern "C" fn galmuriec_sample_short_bfield_element(
     result: &mut u64,
     refusal: &mut [u64; 3],
 ) -> u64
-    ensures { λ r. ⌜ Gives (tells (asks.sample-short-bfield-element (length (now (randomness .entry)))) (gives (short ones (now (randomness .entry)) 0 ∷ []))) r (now (refusal .exit))
-        (now (result .entry)) (now (result .exit)) ⌝ }
+    ensures { λ r. ⌜ GivesC (asks.sample-short-bfield-element (length (now (randomness .entry)))) r (now (refusal .exit))
+        (now (result .entry)) (now (result .exit)) (short ones (now (randomness .entry)) 0) ⌝ }
 {
     deliver(
         galmuriec::lanes::sample_short_bfield_element(randomness),
@@ -258,7 +265,7 @@ pub extern "C" fn galmuriec_sample_short(
     out: &mut [u64],
     refusal: &mut [u64; 3],
 ) -> u64
-    ensures { λ r. ⌜ Fills (asks.sample-short (length (now (randomness .entry))) (length (now (out .entry)))) r
+    ensures { λ r. ⌜ FillsC (asks.sample-short (length (now (randomness .entry))) (length (now (out .entry)))) r
         (now (refusal .exit)) (now (out .entry)) (now (out .exit)) (shorts ones 64 (now (randomness .entry))) ⌝ }
 {
     report(galmuriec::lanes::sample_short(randomness, out), refusal)
@@ -270,7 +277,7 @@ pub extern "C" fn galmuriec_sample_uniform(
     out: &mut [u64],
     refusal: &mut [u64; 3],
 ) -> u64
-    ensures { λ r. ⌜ Fills (asks.sample-uniform (length (now (randomness .entry))) (length (now (out .entry)))) r
+    ensures { λ r. ⌜ FillsC (asks.sample-uniform (length (now (randomness .entry))) (length (now (out .entry)))) r
         (now (refusal .exit)) (now (out .entry)) (now (out .exit)) (uniforms 64 (now (randomness .entry))) ⌝ }
 {
     report(galmuriec::lanes::sample_uniform(randomness, out), refusal)
@@ -278,7 +285,7 @@ pub extern "C" fn galmuriec_sample_uniform(
 
 #[no_mangle]
 pub extern "C" fn galmuriec_embed_msg(msg: &[u8], out: &mut [u64], refusal: &mut [u64; 3]) -> u64
-    ensures { λ r. ⌜ Fills (asks.embed-msg (length (now (msg .entry))) (length (now (out .entry)))) r
+    ensures { λ r. ⌜ FillsC (asks.embed-msg (length (now (msg .entry))) (length (now (out .entry)))) r
         (now (refusal .exit)) (now (out .entry)) (now (out .exit)) (embed (now (msg .entry))) ⌝ }
 {
     report(galmuriec::lanes::embed_msg(msg, out), refusal)
@@ -290,7 +297,7 @@ pub extern "C" fn galmuriec_extract_msg(
     out: &mut [u8],
     refusal: &mut [u64; 3],
 ) -> u64
-    ensures { λ r. ⌜ Fills (asks.extract-msg (now (embedding .entry)) (length (now (out .entry)))) r
+    ensures { λ r. ⌜ FillsC (asks.extract-msg (now (embedding .entry)) (length (now (out .entry)))) r
         (now (refusal .exit)) (now (out .entry)) (now (out .exit)) (extract (now (embedding .entry))) ⌝ }
 {
     report(galmuriec::lanes::extract_msg(embedding, out), refusal)
@@ -303,7 +310,7 @@ pub extern "C" fn galmuriec_shake256(
     output: &mut [u8],
     refusal: &mut [u64; 3],
 ) -> u64
-    ensures { λ r. ⌜ Fills (asks.shake256 (length (now (message .entry))) (length (now (output .entry)))) r
+    ensures { λ r. ⌜ FillsC (asks.shake256 (length (now (message .entry))) (length (now (output .entry)))) r
         (now (refusal .exit)) (now (output .entry)) (now (output .exit)) (shake256 (now (message .entry)) (length (now (output .entry)))) ⌝ }
 {
     report(galmuriec::hash::shake256(message, output), refusal)
@@ -315,7 +322,7 @@ pub extern "C" fn galmuriec_sha3_256(
     output: &mut [u8],
     refusal: &mut [u64; 3],
 ) -> u64
-    ensures { λ r. ⌜ Fills (asks.sha3-256 (length (now (message .entry))) (length (now (output .entry)))) r
+    ensures { λ r. ⌜ FillsC (asks.sha3-256 (length (now (message .entry))) (length (now (output .entry)))) r
         (now (refusal .exit)) (now (output .entry)) (now (output .exit)) (sha3-256 (now (message .entry))) ⌝ }
 {
     report(galmuriec::hash::sha3_256(message, output), refusal)
@@ -329,10 +336,9 @@ pub extern "C" fn galmuriec_keygen(
     public: &mut [u8],
     refusal: &mut [u64; 3],
 ) -> u64
-    ensures { λ r. ⌜ Leaves (tells (asks.keygen (length (now (randomness .entry))) (length (now (secret .entry))) (length (now (public .entry)))) fine) r (now (refusal .exit))
-        (into (now (secret .entry)) (packets.keygen ones (now (randomness .entry)) .secret)
-        ∷ into (now (public .entry)) (public-bytes (packets.keygen ones (now (randomness .entry)) .public)) ∷ [])
-        (now (secret .exit) ∷ now (public .exit) ∷ []) ⌝ }
+    ensures { λ r. ⌜ FillsTwoC (asks.keygen (length (now (randomness .entry))) (length (now (secret .entry))) (length (now (public .entry)))) r
+        (now (refusal .exit)) (now (secret .entry)) (now (secret .exit)) (packets.keygen ones (now (randomness .entry)) .secret)
+        (now (public .entry)) (now (public .exit)) (public-bytes (packets.keygen ones (now (randomness .entry)) .public)) ⌝ }
 {
     report(galmuriec::kem::keygen(randomness, secret, public), refusal)
 }
@@ -345,10 +351,11 @@ pub extern "C" fn galmuriec_enc(
     ciphertext: &mut [u8],
     refusal: &mut [u64; 3],
 ) -> u64
-    ensures { λ r. ⌜ Leaves (tells (asks.enc (now (public .entry)) (length (now (randomness .entry))) (length (now (shared .entry))) (length (now (ciphertext .entry)))) fine) r (now (refusal .exit))
-        (into (now (shared .entry)) (packets.enc ones (public-of (now (public .entry))) (now (randomness .entry)) .shared)
-        ∷ into (now (ciphertext .entry)) (bytes (packets.enc ones (public-of (now (public .entry))) (now (randomness .entry)) .ciphertext)) ∷ [])
-        (now (shared .exit) ∷ now (ciphertext .exit) ∷ []) ⌝ }
+    ensures { λ r. ⌜ FillsTwoC (asks.enc (now (public .entry)) (length (now (randomness .entry))) (length (now (shared .entry)))
+        (length (now (ciphertext .entry)))) r (now (refusal .exit))
+        (now (shared .entry)) (now (shared .exit)) (packets.enc ones (public-of (now (public .entry))) (now (randomness .entry)) .shared)
+        (now (ciphertext .entry)) (now (ciphertext .exit))
+        (bytes (packets.enc ones (public-of (now (public .entry))) (now (randomness .entry)) .ciphertext)) ⌝ }
 {
     report(
         galmuriec::kem::enc(public, randomness, shared, ciphertext),
@@ -365,10 +372,11 @@ pub extern "C" fn galmuriec_enc_numbers(
     ciphertext: &mut [u64],
     refusal: &mut [u64; 3],
 ) -> u64
-    ensures { λ r. ⌜ Leaves (tells (asks.enc-numbers (now (public .entry)) (length (now (randomness .entry))) (length (now (shared .entry))) (length (now (ciphertext .entry)))) fine) r (now (refusal .exit))
-        (into (now (shared .entry)) (packets.enc ones (public-of (now (public .entry))) (now (randomness .entry)) .shared)
-        ∷ into (now (ciphertext .entry)) (packets.enc ones (public-of (now (public .entry))) (now (randomness .entry)) .ciphertext) ∷ [])
-        (now (shared .exit) ∷ now (ciphertext .exit) ∷ []) ⌝ }
+    ensures { λ r. ⌜ FillsTwoC (asks.enc-numbers (now (public .entry)) (length (now (randomness .entry))) (length (now (shared .entry)))
+        (length (now (ciphertext .entry)))) r (now (refusal .exit))
+        (now (shared .entry)) (now (shared .exit)) (packets.enc ones (public-of (now (public .entry))) (now (randomness .entry)) .shared)
+        (now (ciphertext .entry)) (now (ciphertext .exit))
+        (packets.enc ones (public-of (now (public .entry))) (now (randomness .entry)) .ciphertext) ⌝ }
 {
     report(
         galmuriec::kem::enc_numbers(public, randomness, shared, ciphertext),
@@ -383,9 +391,10 @@ pub extern "C" fn galmuriec_dec(
     shared: &mut [u8],
     refusal: &mut [u64; 3],
 ) -> u64
-    ensures { λ r. ⌜ Leaves (tells (asks.dec (length (now (secret .entry))) (now (ciphertext .entry)) (length (now (shared .entry))))
-        (opened-told (packets.dec ones (now (secret .entry)) (words (now (ciphertext .entry)))))) r (now (refusal .exit))
-        (into (now (shared .entry)) (opened-key (packets.dec ones (now (secret .entry)) (words (now (ciphertext .entry))))) ∷ []) (now (shared .exit) ∷ []) ⌝ }
+    ensures { λ r. ⌜ CallC (asks.dec (length (now (secret .entry))) (now (ciphertext .entry)) (length (now (shared .entry))))
+        (opened-told (packets.dec ones (now (secret .entry)) (words (now (ciphertext .entry))))) r (now (refusal .exit))
+        (into (now (shared .entry)) (opened-key (packets.dec ones (now (secret .entry)) (words (now (ciphertext .entry))))) ∷ [])
+        (now (shared .exit) ∷ []) ⌝ }
 {
     report(galmuriec::kem::dec(secret, ciphertext, shared), refusal)
 }
@@ -398,9 +407,10 @@ pub extern "C" fn galmuriec_dec_numbers(
     shared: &mut [u8],
     refusal: &mut [u64; 3],
 ) -> u64
-    ensures { λ r. ⌜ Leaves (tells (asks.dec-numbers (length (now (secret .entry))) (now (ciphertext .entry)) (length (now (shared .entry))))
-        (opened-told (packets.dec ones (now (secret .entry)) (now (ciphertext .entry))))) r (now (refusal .exit))
-        (into (now (shared .entry)) (opened-key (packets.dec ones (now (secret .entry)) (now (ciphertext .entry)))) ∷ []) (now (shared .exit) ∷ []) ⌝ }
+    ensures { λ r. ⌜ CallC (asks.dec-numbers (length (now (secret .entry))) (now (ciphertext .entry)) (length (now (shared .entry))))
+        (opened-told (packets.dec ones (now (secret .entry)) (now (ciphertext .entry)))) r (now (refusal .exit))
+        (into (now (shared .entry)) (opened-key (packets.dec ones (now (secret .entry)) (now (ciphertext .entry)))) ∷ [])
+        (now (shared .exit) ∷ []) ⌝ }
 {
     report(
         galmuriec::kem::dec_numbers(secret, ciphertext, shared),
@@ -410,7 +420,7 @@ pub extern "C" fn galmuriec_dec_numbers(
 
 #[no_mangle]
 pub extern "C" fn galmuriec_clear(secret: &mut [u8], refusal: &mut [u64; 3]) -> u64
-    ensures { λ r. ⌜ Fills (asks.clear (length (now (secret .entry)))) r (now (refusal .exit)) (now (secret .entry)) (now (secret .exit))
+    ensures { λ r. ⌜ FillsC (asks.clear (length (now (secret .entry)))) r (now (refusal .exit)) (now (secret .entry)) (now (secret .exit))
         (zeros 64) ⌝ }
 {
     report(galmuriec::kem::clear(secret), refusal)

@@ -1,11 +1,8 @@
 -- `galmuriec_coset_intt_noswap_64` reports the call's answer.
 use borrow.Author.Needs.{needs}
-use Rattle.galmuriec_c.proofs.Ends.{leaves}
+use Rattle.galmuriec_c.proofs.Ends.{left-behind}
 use Rattle.galmuriec_c.proofs.galmuriec_coset_intt_noswap_64.Statement.{statement}
 use Rattle.galmuriec_c.proofs.galmuriec_coset_intt_noswap_64.Tie as tie
 
-returns : tie.Need-returns
-returns c = leaves _ _ _ _ _ _ _ (c .before .before .before .before .coset-intt-noswap-64 .ensures) (c .report .ensures)
-
 pub galmuriec-coset-intt-noswap-64-spec : {M : Type 1} → statement M
-galmuriec-coset-intt-noswap-64-spec = tie.close (tie.spec (λ c κs. search needs) (λ c κs. search needs) (λ c. search needs) returns)
+galmuriec-coset-intt-noswap-64-spec = tie.close (tie.spec (λ c κs. search needs) (λ c κs. search needs) (λ c. search needs) (λ c. search left-behind))

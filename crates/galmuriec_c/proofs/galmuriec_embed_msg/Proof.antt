@@ -1,11 +1,8 @@
 -- `galmuriec_embed_msg` reports the call's answer.
 use borrow.Author.Needs.{needs}
-use Rattle.galmuriec_c.proofs.Ends.{leaves}
+use Rattle.galmuriec_c.proofs.Ends.{left-behind}
 use Rattle.galmuriec_c.proofs.galmuriec_embed_msg.Statement.{statement}
 use Rattle.galmuriec_c.proofs.galmuriec_embed_msg.Tie as tie
 
-returns : tie.Need-returns
-returns c = leaves _ _ _ _ _ _ _ (c .before .before .before .before .embed-msg .ensures) (c .report .ensures)
-
 pub galmuriec-embed-msg-spec : {M : Type 1} → statement M
-galmuriec-embed-msg-spec = tie.close (tie.spec (λ c κs. search needs) (λ c κs. search needs) (λ c. search needs) returns)
+galmuriec-embed-msg-spec = tie.close (tie.spec (λ c κs. search needs) (λ c κs. search needs) (λ c. search needs) (λ c. search left-behind))

@@ -1,11 +1,8 @@
 -- `galmuriec_extract_msg` reports the call's answer.
 use borrow.Author.Needs.{needs}
-use Rattle.galmuriec_c.proofs.Ends.{leaves}
+use Rattle.galmuriec_c.proofs.Ends.{left-behind}
 use Rattle.galmuriec_c.proofs.galmuriec_extract_msg.Statement.{statement}
 use Rattle.galmuriec_c.proofs.galmuriec_extract_msg.Tie as tie
 
-returns : tie.Need-returns
-returns c = leaves _ _ _ _ _ _ _ (c .before .before .before .before .extract-msg .ensures) (c .report .ensures)
-
 pub galmuriec-extract-msg-spec : {M : Type 1} → statement M
-galmuriec-extract-msg-spec = tie.close (tie.spec (λ c κs. search needs) (λ c κs. search needs) (λ c. search needs) returns)
+galmuriec-extract-msg-spec = tie.close (tie.spec (λ c κs. search needs) (λ c κs. search needs) (λ c. search needs) (λ c. search left-behind))

@@ -1,11 +1,8 @@
 -- `galmuriec_field_mul` delivers what the call tells.
 use borrow.Author.Needs.{needs}
-use Rattle.galmuriec_c.proofs.Ends.{gives-told}
+use Rattle.galmuriec_c.proofs.Ends.{delivered}
 use Rattle.galmuriec_c.proofs.galmuriec_field_mul.Statement.{statement}
 use Rattle.galmuriec_c.proofs.galmuriec_field_mul.Tie as tie
 
-returns : tie.Need-returns
-returns c = gives-told _ _ _ _ _ _ (c .before .before .before .mul .ensures .answered) (c .deliver .ensures)
-
 pub galmuriec-field-mul-spec : {M : Type 1} → statement M
-galmuriec-field-mul-spec = tie.close (tie.spec (λ c κs. search needs) (λ c κs. search needs) returns)
+galmuriec-field-mul-spec = tie.close (tie.spec (λ c κs. search needs) (λ c κs. search needs) (λ c. search delivered))

@@ -1,11 +1,8 @@
 -- `galmuriec_field_neg` delivers what the call tells.
 use borrow.Author.Needs.{needs}
-use Rattle.galmuriec_c.proofs.Ends.{gives-told}
+use Rattle.galmuriec_c.proofs.Ends.{delivered}
 use Rattle.galmuriec_c.proofs.galmuriec_field_neg.Statement.{statement}
 use Rattle.galmuriec_c.proofs.galmuriec_field_neg.Tie as tie
 
-returns : tie.Need-returns
-returns c = gives-told _ _ _ _ _ _ (c .before .before .before .neg .ensures .answered) (c .deliver .ensures)
-
 pub galmuriec-field-neg-spec : {M : Type 1} → statement M
-galmuriec-field-neg-spec = tie.close (tie.spec (λ c κs. search needs) (λ c κs. search needs) returns)
+galmuriec-field-neg-spec = tie.close (tie.spec (λ c κs. search needs) (λ c κs. search needs) (λ c. search delivered))

@@ -1,13 +1,9 @@
 -- `galmuriec_keygen` reports the call's answer.
 use borrow.Author.Needs.{needs}
-use Rattle.galmuriec_c.proofs.Ends.{leaves}
+use Rattle.galmuriec_c.proofs.Ends.{left-behind}
 use Rattle.galmuriec_c.proofs.galmuriec_keygen.Statement.{statement}
 use Rattle.galmuriec_c.proofs.galmuriec_keygen.Tie as tie
 
-returns : tie.Need-returns
-returns c =
-    let called = c .before .before .before .before .before .before .keygen in
-    leaves _ _ _ _ _ _ _ (called .ensures) (c .report .ensures)
-
 pub galmuriec-keygen-spec : {M : Type 1} → statement M
-galmuriec-keygen-spec = tie.close (tie.spec (λ c κs. search needs) (λ c κs. search needs) (λ c. search needs) (λ c. search needs) returns)
+galmuriec-keygen-spec =
+    tie.close (tie.spec (λ c κs. search needs) (λ c κs. search needs) (λ c. search needs) (λ c. search needs) (λ c. search left-behind))
