@@ -164,16 +164,20 @@ module _ (f g : ℕ → ℕ → ℕ → ℕ) (table : ℕ → ℕ) (m t : ℕ) (
   stage-all : (i : ℕ) (new : List ℕ) → i ≡ m → m * (t + t) ≡ 64 → length old ≡ 64 → Filled rule (i * (t + t)) old new → new ≡ tab 64 rule
   stage-all i new e size h x = mapped-all (λ j x. rule j) 64 old new h (subst (λ n. Filled rule n old new) (ap (λ k. k * (t + t)) e ∙ size) x)
 
--- m blocks of t + t numbers are 64 numbers: block i fits, and so does its entry in the table
+-- m blocks of t + t numbers are 64 numbers: there are 32 blocks at most, block i fits, and so does its entry in the table
+few-blocks : (m t : ℕ) → m * (t + t) ≡ 64 → m ≤ 32
+few-blocks m t size =
+    ⊎-elim (λ z. absurd (empty (let e : t ≡ 0 = omega arith in e))) (λ z. omega (arith, mul-le-mul-right m z)) (le-or-lt t 0)
+  where
+    empty : t ≡ 0 → ⊥
+    empty e = let g : m * (0 + 0) ≡ 64 = subst (λ n. m * (n + n) ≡ 64) e size in omega arith
+
 module _ (m t i : ℕ) (size : m * (t + t) ≡ 64) (h : i < m) where
   pub block-fits : i * (t + t) + t + t ≤ 64
   block-fits = omega (arith, mul-le-mul-right (t + t) h)
 
   pub entry-fits : m + i < 64
-  entry-fits = ⊎-elim (λ z. absurd (empty (let e : t ≡ 0 = omega arith in e))) (λ z. omega (arith, mul-le-mul-right m z)) (le-or-lt t 0)
-    where
-      empty : t ≡ 0 → ⊥
-      empty e = let g : m * (0 + 0) ≡ 64 = subst (λ n. m * (n + n) ≡ 64) e size in omega arith
+  entry-fits = omega (arith, few-blocks m t size)
 
 -- ---- a stage of either transform
 -- the two new numbers of a butterfly, both canonical, and its zeta; and what the code's table holds, of which it makes the zeta
@@ -204,12 +208,19 @@ step-below S m t l x = go (ltb (x % (t + t)) t)
 -- i of the m blocks are done
 pub record Staged (S : Step) (m t : ℕ) (old : List ℕ) (i : ℕ) (new : List ℕ) : Type 0 where
   pub size : m * (t + t) ≡ 64
+  pub few : m ≤ 32
   pub canonical : Coefficients 64 old
   pub within : i ≤ m
   pub done : Filled (step-at S m t old) (i * (t + t)) old new
 
 pub staged-none : {S : Step} {m t : ℕ} {old : List ℕ} → m * (t + t) ≡ 64 → Coefficients 64 old → Staged S m t old 0 old
-staged-none {S} {m} {t} {old} e c = record { size = e; canonical = c; within = omega arith; done = stage-none (S .low) (S .high) (S .table) m t old }
+staged-none {S} {m} {t} {old} e c = record {
+  size = e;
+  few = few-blocks m t e;
+  canonical = c;
+  within = omega arith;
+  done = stage-none (S .low) (S .high) (S .table) m t old;
+}
 
 module _ {S : Step} {m t : ℕ} {old : List ℕ} {i : ℕ} {now : List ℕ} (x : Staged S m t old i now) where
   pub staged-canonical : Coefficients 64 now
@@ -218,21 +229,19 @@ module _ {S : Step} {m t : ℕ} {old : List ℕ} {i : ℕ} {now : List ℕ} (x :
   pub staged-room : i < m → i * (t + t) + t + t ≤ 64
   staged-room h = block-fits m t i (x .size) h
 
-  pub staged-entry : i < m → m + i < 64
-  staged-entry h = entry-fits m t i (x .size) h
-
   -- one block more, with the zeta that is made of the table's entry
   pub staged-more : {z : ℕ} {entries new : List ℕ} → i < m → entries ≡ tab 64 (S .held) → z ≡ S .made (getD entries (m + i) 0)
       → Butterflied (S .low z) (S .high z) (i * (t + t)) t (i * (t + t) + t) now new → Staged S m t old (i + 1) new
   staged-more {z} {entries} {new} h l e b = record {
     size = x .size;
+    few = x .few;
     canonical = x .canonical;
     within = omega arith;
     done = stage-more (S .low) (S .high) (S .table) m t old i z now new zeta (x .done) b;
   }
     where
       zeta : z ≡ S .table (m + i)
-      zeta = e ∙ ap (S .made) (entry-is (S .held) (m + i) (staged-entry h) l) ∙ S .is (m + i)
+      zeta = e ∙ ap (S .made) (entry-is (S .held) (m + i) (omega (arith, x .few)) l) ∙ S .is (m + i)
 
   pub staged-all : i ≡ m → (now ≡ tab 64 (step-at S m t old)) × Coefficients 64 now
   staged-all e = (stage-all (S .low) (S .high) (S .table) m t old i now e (x .size) (x .canonical .size) (x .done), staged-canonical)
