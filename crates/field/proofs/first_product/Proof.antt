@@ -1,16 +1,14 @@
 -- `first_product` holds the product in its two lower words.
 use borrow.Author.Needs.{needs}
-use mathlib.Core.Path.{refl, ap, _∙_}
-use Prim.Native.Nat.{ℕ}
+use mathlib.Core.Path.{refl}
 use native.Mathlib.Nat.{zero-add}
-use Rattle.field.specs.Field.{wide}
 use Rattle.field.specs.Sums.{amount, carries}
 use Rattle.field.proofs.first_product.Statement.{statement}
 use Rattle.field.proofs.first_product.Tie as tie
 
 returns : tie.Need-returns
 unfolding amount carries
-returns c = (ap (λ (n : ℕ). wide n (c .product .result .lo)) (zero-add (c .product .result .hi)) ∙ c .product .ensures, refl)
+returns c = (rw zero-add (c .product .ensures), refl)
 
 pub first-product-spec : {M : Type 1} → statement M
 first-product-spec = tie.close (tie.spec (λ c κs. search needs) returns)

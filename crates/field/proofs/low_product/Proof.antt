@@ -1,8 +1,8 @@
 -- `low_product` gives the low half: what wraps is a multiple of 2^64.
 use borrow.Author.Needs.{needs}
 use native.Mathlib.Omega.{arith}
-use mathlib.Core.Path.{ap, _∙_}
-use Prim.Native.Nat.{ℕ, _+_, _*_, _/_, _%_, _^_}
+use mathlib.Core.Path.{_∙_}
+use Prim.Native.Nat.{_/_, _%_, _^_}
 use Rattle.field.proofs.Halves.{low-is, product-fits}
 use Rattle.field.proofs.low_product.Statement.{statement}
 use Rattle.field.proofs.low_product.Tie as tie
@@ -19,9 +19,7 @@ mul-a₀b₀ c = record { fits = product-fits (c .before .args .a % 2 ^ 32) (c .
 returns : tie.Need-returns
 returns c =
     let n = c .before .before .args in
-    c .wrapping-add-u642 .ensures
-    ∙ ap (λ (k : ℕ). (k * 2 ^ 32 % 2 ^ 64 + n .a % 2 ^ 32 * (n .b % 2 ^ 32)) % 2 ^ 64) (c .before .wrapping-add-u64 .ensures)
-    ∙ low-is (2 ^ 32) (n .a) (n .b)
+    c .wrapping-add-u642 .ensures ∙ rw (c .before .wrapping-add-u64 .ensures) (low-is (2 ^ 32) (n .a) (n .b))
 
 pub low-product-spec : {M : Type 1} → statement M
 low-product-spec =

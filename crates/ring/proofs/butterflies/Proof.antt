@@ -17,7 +17,7 @@ abbrev μ-loop : tie.MeasureT-loop
 μ-loop array₀ s t zeta j₀ j-end array j = j-end - j
 
 sub-mod-p-requires : tie.Need-sub-mod-p-requires Inv-loop μ-loop
-sub-mod-p-requires c κs = (search (needs, turned-low), search needs)
+sub-mod-p-requires c κs = (search (needs, turned-low), search (needs, turned-low))
 
 loop-again : tie.Need-loop-again Inv-loop μ-loop
 loop-again c =

@@ -1,7 +1,7 @@
 -- `append` squares n times and multiplies.
 use borrow.Author.Needs.{needs}
-use Prim.Native.Nat.{ℕ, _*_, _%_, _^_}
-use mathlib.Core.Path.{ap, _∙_}
+use Prim.Native.Nat.{_^_}
+use mathlib.Core.Path.{_∙_}
 use Rattle.laws.proofs.Congruence.{mul-mod-l}
 use Rattle.field.specs.Field.{P}
 use Rattle.field.specs.Element.{num}
@@ -14,8 +14,8 @@ returns c =
     record {
       good = c .mul .ensures .good;
       number =
-          c .mul .ensures .number ∙ ap (λ (x : ℕ). (x * num (n .low)) % P) (c .before .squared .ensures .number)
-          ∙ mul-mod-l P (num (n .self) ^ (2 ^ (n .n))) (num (n .low));
+          c .mul .ensures .number
+          ∙ rw (c .before .squared .ensures .number) (mul-mod-l P (num (n .self) ^ (2 ^ (n .n))) (num (n .low)));
     }
 
 pub append-spec : {M : Type 1} → statement M

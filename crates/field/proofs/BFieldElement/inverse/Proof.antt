@@ -2,8 +2,6 @@
 use borrow.Author.Needs.{needs}
 use Prim.Native.Nat.{_-_, _%_, _^_}
 use mathlib.Core.Path.{sym, ap, _∙_}
-use Rattle.field.specs.declared.BFieldElement.{BFieldElement}
-use Rattle.field.specs.declared.Inverted.the-variants.{Inverse}
 use Rattle.field.specs.Field.{P}
 use Rattle.field.specs.Element.{num, element, inverted}
 use Rattle.field.proofs.Elements.{same-element, element-stands}
@@ -19,8 +17,7 @@ returns-2 c =
     let self = c .before .before .args .self in
     let power = num self ^ (P - 2) in
     let found = same-element (c .to-p-minus-2 .result) (element power) (power % P) (c .to-p-minus-2 .ensures) (element-stands power) in
-    ap (λ (e : BFieldElement). Inverse e) found
-    ∙ sym (inverted-other (num self) (word-other self (c .before .before .pre) (c .before .if1 .left)))
+    rw found (sym (inverted-other (num self) (word-other self (c .before .before .pre) (c .before .if1 .left))))
 
 pub inverse-spec : {M : Type 1} → statement M
 inverse-spec = tie.close (tie.spec (λ c κs. search needs) returns returns-2)

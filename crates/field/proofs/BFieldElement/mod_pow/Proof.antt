@@ -2,7 +2,7 @@
 use borrow.Author.Needs.{needs}
 use native.Mathlib.Omega.{arith}
 use native.Mathlib.Nat.{mod-lt, div-one, pow-zero}
-use mathlib.Core.Path.{_≡_, sym, ap, _∙_, subst}
+use mathlib.Core.Path.{_≡_, _∙_}
 use Prim.Native.Nat.{ℕ, suc, _-_, _≤_, _<_, _/_, _%_, _^_}
 use lib.Count.{leading-le}
 use lib.Dec.{lit<}
@@ -26,8 +26,7 @@ loop-holds c =
       record {
         good = c .new .ensures .good;
         number =
-            c .new .ensures .number ∙ ap (λ (k : ℕ). k % P) (sym (pow-zero (num (n .self))))
-            ∙ ap (λ (k : ℕ). (num (n .self) ^ k) % P) (sym (above 64 (n .exp) (search needs)));
+            c .new .ensures .number ∙ rw (above 64 (n .exp) (search needs), pow-zero);
       },
     )
 
@@ -36,8 +35,7 @@ before-square : (c : tie.After-mul Inv-loop μ-loop) → let n = c .before .befo
     num (n .loop .acc) ≡ (num (n .before .before .args .self) ^ (n .before .before .args .exp / 2 ^ suc (n .loop .digits - 1))) % P
 before-square c =
     let n = c .before .before in
-    subst (λ (k : ℕ). num (n .loop .acc) ≡ (num (n .before .before .args .self) ^ (n .before .before .args .exp / 2 ^ k)) % P)
-    (omega arith) (n .loop .inv .1 .number)
+    let e : n .loop .digits ≡ suc (n .loop .digits - 1) = omega arith in rw e at (n .loop .inv .1 .number)
 
 loop-again : tie.Need-loop-again Inv-loop μ-loop
 loop-again c =
@@ -76,10 +74,7 @@ loop-again-2 c =
 
 returns : tie.Need-returns Inv-loop μ-loop
 returns c =
-    let args = c .before .before .before .args in
-    let none : c .before .loop .digits ≡ 0 = omega arith in
-    subst (λ (n : ℕ). Stands (c .before .loop .acc) ((num (args .self) ^ n) % P))
-    (ap (λ (k : ℕ). args .exp / 2 ^ k) none ∙ div-one (args .exp)) (c .before .loop .inv .1)
+    let none : c .before .loop .digits ≡ 0 = omega arith in rw (none, div-one) at (c .before .loop .inv .1)
 
 pub mod-pow-spec : {M : Type 1} → statement M
 mod-pow-spec =

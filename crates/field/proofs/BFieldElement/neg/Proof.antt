@@ -1,9 +1,8 @@
 -- `neg` takes the number from p.
-use Prim.Native.Nat.{ℕ, _-_, _%_}
 use mathlib.Core.Path.{ap, _∙_}
 use native.Mathlib.Nat.{le-of-lt, zero-add}
 use lib.Dec.{lit<}
-use Rattle.field.specs.Field.{P, reduced}
+use Rattle.field.specs.Field.{reduced}
 use Rattle.field.specs.Element.{Good, num}
 use Rattle.field.proofs.Elements.{num-sub}
 use Rattle.field.proofs.BFieldElement.neg.Statement.{statement}
@@ -19,7 +18,7 @@ returns c = record {
   good = c .sub-mod-p .ensures .1;
   number =
       ap reduced (c .sub-mod-p .ensures .0) ∙ num-sub 0 (c .before .args .self .0) (c .before .pre)
-      ∙ ap (λ (n : ℕ). n % P) (zero-add (P - num (c .before .args .self)));
+      ∙ rw zero-add;
 }
 
 pub neg-spec : {M : Type 1} → statement M

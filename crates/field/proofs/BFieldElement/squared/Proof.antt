@@ -1,7 +1,7 @@
 -- `squared` raises to the power 2 ^ times. The loop's invariant: after i turns res stands for the 2 ^ i th power.
 use native.Mathlib.Omega.{arith}
-use mathlib.Core.Path.{ap, _∙_, subst}
-use Prim.Native.Nat.{ℕ, _-_, _≤_, _%_, _^_}
+use mathlib.Core.Path.{_≡_, _∙_}
+use Prim.Native.Nat.{_-_, _≤_, _%_, _^_}
 use Rattle.laws.proofs.Powers.{mul-powers, first-power, twice}
 use Rattle.field.specs.Field.{P}
 use Rattle.field.specs.Element.{num, Stands}
@@ -28,13 +28,12 @@ loop-again c =
         number =
             c .mul .ensures .number
             ∙ mul-powers P x (2 ^ (l .i)) (2 ^ (l .i)) (num (l .res)) (num (l .res)) (l .inv .1 .number) (l .inv .1 .number)
-            ∙ ap (λ (n : ℕ). (x ^ n) % P) (twice (l .i));
+            ∙ rw (twice (l .i));
       },
     )
 
 returns : tie.Need-returns Inv-loop μ-loop
-returns c =
-    subst (λ (n : ℕ). Stands (c .before .loop .res) ((num (c .before .before .args .self) ^ (2 ^ n)) % P)) (omega arith) (c .before .loop .inv .1)
+returns c = let e : c .before .loop .i ≡ c .before .before .args .times = omega arith in rw e at (c .before .loop .inv .1)
 
 pub squared-spec : {M : Type 1} → statement M
 squared-spec =
