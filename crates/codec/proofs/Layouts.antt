@@ -1,4 +1,4 @@
--- Reading and writing undo each other, and what a loop has done that writes numbers. Assumes nothing.
+-- Reading and writing undo each other, and what a loop has done that writes numbers.
 use mathlib.Core.Path.{_≡_, refl, sym, ap, _∙_, subst}
 use mathlib.Core.List.{List}
 use Prim.Native.Nat.{ℕ, suc, _+_, _*_, _/_, _%_, _^_, _≤_, _<_}
@@ -52,7 +52,8 @@ byte-of-word s b o k h = digit-number 256 8 (λ j. getD s (o + j) 0) (lit< tt) (
 pub word-drop : (l : List ℕ) (o : ℕ) → word (drop o l) 0 ≡ word l o
 unfolding word
 word-drop l o =
-    number-ext 256 8 (λ k. getD (drop o l) (0 + k) 0) (λ k. getD l (o + k) 0) (λ k h. ap (λ (n : ℕ). getD (drop o l) n 0) (zero-add k) ∙ getD-drop o l k 0)
+    number-ext 256 8 (λ k. getD (drop o l) (0 + k) 0) (λ k. getD l (o + k) 0)
+    (λ k h. ap (λ (n : ℕ). getD (drop o l) n 0) (zero-add k) ∙ getD-drop o l k 0)
 
 -- numbers to bytes and back
 pub words-bytes : (w : List ℕ) (n : ℕ) → Below (2 ^ 64) n w → words (bytes w) ≡ w

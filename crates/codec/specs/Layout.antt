@@ -1,4 +1,4 @@
--- Numbers of 64 bits as eight bytes, lowest first: document 01, "Layouts". Assumes nothing.
+-- Numbers of 64 bits as eight bytes, lowest first: document 01, "Layouts".
 use mathlib.Core.List.{List}
 use Prim.Native.Nat.{ℕ, _+_, _*_, _/_, _%_}
 use lib.ListN.{length, getD, set}

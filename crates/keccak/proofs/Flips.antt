@@ -1,4 +1,4 @@
--- A round of a state with complemented lanes: what is complemented stays so. Assumes nothing.
+-- A round of a state with complemented lanes: what is complemented stays so.
 use mathlib.Core.Path.{_≡_, refl, sym, ap, ap₂, _∙_}
 use mathlib.Core.Bool.{Bool, true, false, not, _||_}
 use mathlib.Core.List.{List}
@@ -6,7 +6,7 @@ use Prim.Native.Nat.{ℕ, _+_, _-_, _*_, _/_, _%_, _^_, _<_, _≤_}
 use native.Mathlib.Omega.{arith}
 use lib.Bits.{bitXor, bitAnd, bitOr, xor-lt, and-lt}
 use lib.Dec.{eqb}
-use lib.ListN.{getD, length}
+use lib.ListN.{getD, set, length}
 use lib.Pow.{pow-pos}
 use Rattle.laws.specs.Lists.{Below, tab, tabFrom}
 use Rattle.laws.proofs.Bits.{bit-not, bit-ext, not-not, not-lt, xor-not, not-xor-left, or-not}
@@ -14,7 +14,7 @@ use Rattle.laws.proofs.Bounds.{tab-below}
 use Rattle.laws.proofs.Lists.{getD-tab, tab-ext, is-tab, length-tab}
 use Rattle.keccak.specs.Keccak.{offset}
 use Rattle.keccak.specs.Lanes.{rot, parity, parities, effect, effects, rotation, source, moved, row, laid, constants, step, rounds, keccak-p}
-use Rattle.keccak.specs.Complement.{flip, differ, over, flips, complemented, over-parity, over-effect, kept-row}
+use Rattle.keccak.specs.Complement.{flip, differ, over, flips, flipped, complemented, over-parity, over-effect, kept-row}
 use Rattle.keccak.proofs.Assembly.{laid-by, whole}
 use Rattle.keccak.proofs.Places.{rounds-more}
 use Rattle.keccak.proofs.Rotations.{bit-rot, rot-lt}
@@ -187,6 +187,17 @@ module _ (s : List ℕ) (h : (i : ℕ) → getD s i 0 < 2 ^ 64) where
   kept-round c =
       rows-flip (effects (parities s)) c ∙ ap (λ (d : List ℕ). complemented (laid-by (row (complemented s) d) c)) (sym effects-flip)
       ∙ ap complemented (whole (complemented s) c)
+
+-- the six lanes, one after the other
+abbrev six : List ℕ → List ℕ
+six s = flipped (flipped (flipped (flipped (flipped (flipped s 1) 2) 8) 12) 17) 20
+
+of-lanes : (s : List ℕ) → six (tab 25 (λ i. getD s i 0)) ≡ complemented s
+unfolding complemented flips tab tabFrom
+of-lanes s = refl
+
+pub six-flipped : (s : List ℕ) → length s ≡ 25 → six s ≡ complemented s
+six-flipped s h = ap six (is-tab 25 (λ i. getD s i 0) 0 s h (λ i l. refl)) ∙ of-lanes s
 
 -- complementing twice gives back 25 lanes
 pub twice : (s : List ℕ) → Below (2 ^ 64) 25 s → complemented (complemented s) ≡ s

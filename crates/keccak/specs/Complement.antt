@@ -1,9 +1,9 @@
--- States with some lanes kept complemented. Assumes nothing.
+-- States with some lanes kept complemented.
 use mathlib.Core.Bool.{Bool, true, false, not, _||_}
 use mathlib.Core.List.{List}
 use Prim.Native.Nat.{ℕ, _+_, _-_, _*_, _%_, _^_}
 use lib.Dec.{eqb}
-use lib.ListN.{getD}
+use lib.ListN.{getD, set}
 use Rattle.laws.specs.Lists.{tab}
 use Rattle.keccak.specs.Lanes.{row}
 
@@ -22,6 +22,10 @@ over i = eqb i 1 || eqb i 2 || eqb i 8 || eqb i 12 || eqb i 17 || eqb i 20
 
 unfoldable pub flips : (ℕ → Bool) → ℕ → List ℕ → List ℕ
 flips f n s = tab n (λ i. flip (f i) (getD s i 0))
+
+-- lane i complemented
+abbrev pub flipped : List ℕ → ℕ → List ℕ
+flipped s i = set s i ((2 ^ 64 - 1) - getD s i 0)
 
 unfoldable pub complemented : List ℕ → List ℕ
 complemented s = flips over 25 s

@@ -1,4 +1,4 @@
--- `copy` copies. Assumes nothing.
+-- `copy` copies.
 use borrow.Author.Needs.{needs}
 use native.Mathlib.Omega.{arith}
 use Prim.Native.Nat.{_-_, _≤_}

@@ -1,4 +1,4 @@
--- `load` reads eight bytes: the sum is the number of eight digits in base 256. Assumes nothing.
+-- `load` reads eight bytes: the sum is the number of eight digits in base 256.
 use native.Mathlib.Omega.{arith}
 use Prim.Native.Nat.{ℕ, _-_}
 use mathlib.Core.Path.{ap}
@@ -14,7 +14,9 @@ use Rattle.codec.proofs.load.Tie as tie
 returns : tie.Need-returns
 unfolding word number total
 returns c =
-    let k₂ = c .before .before .before .before .before .before .before .before .before .before .before .before in
+    let k₆ = c .before .before .before .before in
+    let k₄ = k₆ .before .before .before .before in
+    let k₂ = k₄ .before .before .before .before in
     let k₁ = k₂ .before .before in
     let n = k₁ .before .before .before .args in
     omega (arith, k₁ .wide .ensures .0, k₂ .wide2 .ensures .0, ap (λ (k : ℕ). getD (n .s .now) k 0) (add-zero (n .at)))

@@ -1,9 +1,8 @@
--- `pack` fills its output with the bytes, eight a turn. Assumes nothing.
+-- `pack` fills its output with the bytes, eight a turn.
 use borrow.Author.Needs.{needs}
 use native.Mathlib.Omega.{arith}
 use Prim.Native.Nat.{ℕ, _+_, _*_, _-_, _≤_}
-use mathlib.Core.Path.{_≡_, sym, ap, subst}
-use mathlib.Core.List.{List}
+use mathlib.Core.Path.{_≡_, subst}
 use lib.ListN.{length}
 use Rattle.laws.proofs.Updates.{Filled, mapped-none, mapped-all}
 use Rattle.codec.specs.Layout.{byte, bytes}
@@ -22,11 +21,12 @@ loop-holds c = (search needs, search needs, mapped-none _ _)
 
 loop-again : tie.Need-loop-again Inv-loop μ-loop
 loop-again c =
-    let n = c .before .before .before .before .before .before in
+    let stored = c .before .before in
+    let n = stored .before .before .before .before in
     let a = n .before .before .before .args in (
       omega arith,
       omega arith,
-      subst (λ (l : List ℕ). Filled (byte (a .w .now)) (8 * (n .loop .i + 1)) (a .out .now) l) (sym (c .before .before .store .ensures))
+      rw (stored .store .ensures)
           (packed-more (a .w .now) (n .loop .i) (a .out .now) (n .loop .out) (omega arith) (omega arith) (n .loop .inv .2)),
     )
 

@@ -1,4 +1,4 @@
--- `store` puts eight bytes: digit i of x in base 256 is what the code takes. Assumes nothing.
+-- `store` puts eight bytes: digit i of x in base 256 is what the code takes.
 use native.Mathlib.Omega.{arith}
 use Prim.Native.Nat.{_-_}
 use lib.ListN.{length, length-set}

@@ -1,4 +1,4 @@
--- `unpack` fills its output with the numbers, one a turn. Assumes nothing.
+-- `unpack` fills its output with the numbers, one a turn.
 use borrow.Author.Needs.{needs}
 use native.Mathlib.Omega.{arith}
 use Prim.Native.Nat.{ℕ, _*_, _-_, _≤_, _/_}

@@ -1,4 +1,4 @@
--- `next_block` permutes where both want bytes, and then nobody sees it. Assumes nothing.
+-- `next_block` permutes where both want bytes, and then nobody sees it.
 use native.Mathlib.Omega.{arith}
 use borrow.Author.Needs.{needs}
 use Rattle.hash.proofs.Steps.{alike-self, alike-turned}

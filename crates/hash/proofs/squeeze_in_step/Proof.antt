@@ -1,4 +1,4 @@
--- `squeeze_in_step` puts the two states into one array, draws, and takes them out again. Assumes nothing.
+-- `squeeze_in_step` puts the two states into one array, draws, and takes them out again.
 use native.Mathlib.Omega.{arith}
 use mathlib.Core.Path.{refl, _∙_}
 use borrow.Author.Needs.{needs}

@@ -1,4 +1,4 @@
--- `permuted` complements, does the rounds, and complements back. Assumes nothing.
+-- `permuted` complements, does the rounds, and complements back.
 use Prim.Native.Nat.{_-_}
 use mir.Syntax.{w64}
 use borrow.Author.Needs.{needs}
