@@ -1,4 +1,4 @@
--- How coefficients of an embedding and bytes of an extraction come about; both are canonical. Assumes nothing.
+-- How coefficients of an embedding and bytes of an extraction come about; both are canonical.
 use mathlib.Core.Path.{_≡_, sym, ap, _∙_, subst}
 use mathlib.Core.Bool.{Bool, true, false}
 use mathlib.Core.List.{List}
@@ -17,7 +17,7 @@ use Rattle.laws.proofs.Tests.{both}
 use Rattle.laws.proofs.Lists.{getD-tab}
 use Rattle.laws.proofs.Bounds.{tab-below}
 use Rattle.field.specs.Field.{P, Coefficients}
-use Rattle.lanes.specs.Lanes.{placed}
+use Rattle.lanes.specs.FourLanes.{placed}
 use Rattle.lanes.specs.Messages.{lifted, embedded, embed, chunk, chunk-bit, read, extracted, extract}
 
 -- ---- embedding
@@ -100,7 +100,9 @@ read-small v = most _ _ _ _ (chunk-bit-lt (chunk v 0)) (chunk-bit-lt (chunk v 1)
 -- 32 bytes
 pub extract-bytes : (cs : List ℕ) → Below 256 32 (extract cs)
 unfolding extract
-extract-bytes cs = tab-below 256 32 (λ i. extracted cs i) (lit< tt) (λ i h. most _ _ (read-small (getD cs (2 * i) 0)) (read-small (getD cs (2 * i + 1) 0)))
+extract-bytes cs =
+    tab-below 256 32 (λ i. extracted cs i) (lit< tt)
+    (λ i h. most _ _ (read-small (getD cs (2 * i) 0)) (read-small (getD cs (2 * i + 1) 0)))
   where
     most : (a b : ℕ) → a ≤ 15 → b ≤ 15 → a + 16 * b < 256
     most a b ha hb = omega arith

@@ -1,4 +1,4 @@
--- What the samplers draw: canonical coefficients, counts of at most 8, and the steps by which nine bytes are read. Assumes nothing.
+-- What the samplers draw: canonical coefficients, counts of at most 8, and the steps by which nine bytes are read.
 use mathlib.Core.Path.{_≡_, refl, sym, ap, _∙_}
 use mathlib.Core.List.{List, [], _∷_}
 use Prim.Native.Nat.{ℕ, zero, suc, _+_, _*_, _-_, _%_, _^_, _≤_, _<_}

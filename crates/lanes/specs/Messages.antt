@@ -1,4 +1,4 @@
--- Document 01, "Message lanes": 32 bytes of payload in 64 coefficients, and back. Assumes nothing.
+-- Document 01, "Message lanes": 32 bytes of payload in 64 coefficients, and back.
 use mathlib.Core.Bool.{true, false}
 use mathlib.Core.List.{List}
 use Prim.Native.Nat.{ℕ, _+_, _*_, _/_, _%_, _^_}
@@ -7,7 +7,7 @@ use lib.ListN.{getD}
 use Rattle.laws.specs.Lists.{tab}
 use Rattle.laws.proofs.Tests.{both}
 use Rattle.laws.specs.Bits.{bit}
-use Rattle.lanes.specs.Lanes.{placed}
+use Rattle.lanes.specs.FourLanes.{placed}
 
 -- four bits of n from bit h on: bit h + j gives 2^(15 + 16 j)
 unfoldable pub lifted : ℕ → ℕ → ℕ

@@ -1,4 +1,4 @@
--- Document 01, "Points at the edges": the points with *, as one table and one statement over it. Assumes nothing.
+-- Document 01, "Points at the edges": the points with *, as one table and one statement over it.
 use mathlib.Core.Bool.{true, false}
 use mathlib.Core.Path.{refl}
 use mathlib.Core.List.{List, [], _∷_, _++_, map}
@@ -12,7 +12,7 @@ use Rattle.field.specs.Field.{P}
 use Rattle.ring.specs.Transform.{brv, value, point, transform}
 use Rattle.ring.specs.Elements.{shift, product}
 use Rattle.laws.specs.Bits.{bit}
-use Rattle.lanes.specs.Lanes.{placed}
+use Rattle.lanes.specs.FourLanes.{placed}
 use Rattle.lanes.specs.Samplers.{big-endian, uniform, ones, counts, short}
 use Rattle.lanes.specs.Messages.{lifted, embed, chunk-bit, read}
 
@@ -61,5 +61,6 @@ points =
     ∷ []
 
 pub edges : Holds answer points
-unfolding points answer monomial tab tabFrom total product shift transform value point brv bit chunk-bit read embed lifted uniform big-endian short counts ones
+unfolding points answer monomial tab tabFrom total product shift transform value point brv bit chunk-bit read embed lifted uniform big-endian
+    short counts ones
 edges = refl

@@ -1,12 +1,12 @@
 -- Document 01, "Sampling". A sampler takes its bytes from place s of a list on; a ring element has 64 coefficients, a vector of the key 256, the
--- matrix 1,024, and all are one definition over the number of coefficients. Assumes nothing.
+-- matrix 1,024, and all are one definition over the number of coefficients.
 use mathlib.Core.List.{List}
 use Prim.Native.Nat.{ℕ, zero, suc, _+_, _*_, _-_, _%_}
 use lib.ListN.{getD}
 use Rattle.laws.specs.Lists.{tab}
 use Rattle.field.specs.Field.{P}
 use Rattle.laws.specs.Bits.{bit}
-use Rattle.lanes.specs.Lanes.{placed}
+use Rattle.lanes.specs.FourLanes.{placed}
 
 -- n bytes from place s on, the first one the highest
 unfoldable pub big-endian : List ℕ → ℕ → ℕ → ℕ

@@ -8,7 +8,7 @@ use native.Mathlib.Omega.{arith}
 use lib.Dec.{lit<}
 use Rattle.laws.proofs.Orders.{le-or-lt}
 use Rattle.field.specs.Field.{P}
-use Rattle.lanes.specs.Lanes.{placed}
+use Rattle.lanes.specs.FourLanes.{placed}
 use Rattle.lanes.specs.Messages.{chunk-bit, read, chunk}
 use Rattle.noise.specs.Noise.{limit}
 use Rattle.lanes.proofs.Messages.{chunk-bit-low, chunk-bit-middle, chunk-bit-high}

@@ -14,7 +14,7 @@ use Rattle.laws.proofs.ModularSolver.{Quoted, mod-ring, at, lit, neg, _⊞_, _�
 use Rattle.laws.proofs.Integers.{Sized, size-add, size-neg, size-mul, size-wider, residue-below}
 use Rattle.laws.proofs.Integers.{Leaves, leaves-pos, leaves-cong, leaves-residue, leaves-one, leaves-add, leaves-neg, leaves-mul}
 use Rattle.field.specs.Field.{P}
-use Rattle.lanes.specs.Lanes.{placed}
+use Rattle.lanes.specs.FourLanes.{placed}
 use Rattle.noise.specs.Noise.{Lanes}
 
 pub record Four : Type 0 where

@@ -19,7 +19,7 @@ use Rattle.laws.proofs.Integers.{Sized, over, under, over-at-most, under-at-mos
 use Rattle.field.specs.Field.{P, Coefficients}
 use Rattle.ring.specs.Elements.{plus}
 use Rattle.laws.specs.Bits.{bit}
-use Rattle.lanes.specs.Lanes.{placed}
+use Rattle.lanes.specs.FourLanes.{placed}
 use Rattle.lanes.specs.Messages.{lifted, embed, chunk-bit, read, extracted, extract}
 use Rattle.lanes.proofs.Messages.{embed-even, embed-odd, embed-canonical}
 use Rattle.noise.specs.Noise.{Lanes, limit, Harmless}

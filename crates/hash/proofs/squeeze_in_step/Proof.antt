@@ -10,7 +10,8 @@ returns : tie.Need-returns
 returns c =
     let parted = c .before .before in
     let turned = parted .before .before in
-    let drew = turned .before .before .before .before .before .before in
+    let lengths = turned .before .before .before in
+    let drew = lengths .before .before .before in
     let right = drew .before .before .before .before in
     let left = right .before .before .before in
     let put-left = right .put-lanes2 .ensures .other 2 (omega arith) ∙ left .put-lanes .ensures .here in

@@ -1,4 +1,4 @@
--- `chunk_bit` is the rule of the two thresholds. Assumes nothing.
+-- `chunk_bit` is the rule of the two thresholds.
 use native.Mathlib.Omega.{arith}
 use mathlib.Core.Path.{sym}
 use borrow.Author.Needs.{needs}

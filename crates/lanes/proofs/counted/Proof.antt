@@ -1,4 +1,4 @@
--- `counted` puts the counts of four bytes into their lanes. Assumes nothing.
+-- `counted` puts the counts of four bytes into their lanes.
 use native.Mathlib.Omega.{arith}
 use Prim.Native.Nat.{_+_, _*_, _^_}
 use mathlib.Core.Path.{_∙_}

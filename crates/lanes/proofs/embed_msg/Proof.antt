@@ -1,4 +1,4 @@
--- `embed_msg` fills the embedding. The loop's invariant: the first 2 i coefficients are those of the payload's bytes. Assumes nothing.
+-- `embed_msg` fills the embedding. The loop's invariant: the first 2 i coefficients are those of the payload's bytes.
 use borrow.Author.Needs.{needs}
 use native.Mathlib.Omega.{arith}
 use Prim.Native.Nat.{ℕ, _+_, _*_, _-_, _≤_, _/_}
@@ -21,11 +21,12 @@ loop-holds c = (search needs, mapped-none _ (c .before .before .args .out .now))
 
 loop-again : tie.Need-loop-again Inv-loop μ-loop
 loop-again c =
-    let n = c .before .before .before .before .before in
+    let read = c .before .before in
+    let n = read .before .before .before in
     let a = n .before .before .before .args in
     let m = a .msg .now in
     let i = n .loop .i in
-    let b = c .before .before .wide .ensures .0 in
+    let b = read .wide .ensures .0 in
     let low = c .before .lift .ensures ∙ ap (λ (x : ℕ). lifted x 0) b ∙ sym (embedded-even m i) in
     let high = c .lift2 .ensures ∙ ap (λ (x : ℕ). lifted (x / 16) 0) b ∙ lifted-upper (getD m i 0) ∙ sym (embedded-odd m i) in
     let e : 2 * i + 1 + 1 ≡ 2 * (i + 1) = omega arith in (

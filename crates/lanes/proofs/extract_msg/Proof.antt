@@ -1,4 +1,4 @@
--- `extract_msg` fills the payload. The loop's invariant: the first i bytes are read. Assumes nothing.
+-- `extract_msg` fills the payload. The loop's invariant: the first i bytes are read.
 use borrow.Author.Needs.{needs}
 use native.Mathlib.Omega.{arith}
 use Prim.Native.Nat.{_+_, _*_, _-_, _≤_}
@@ -19,11 +19,12 @@ loop-holds c = (search needs, mapped-none _ (c .before .before .args .out .now))
 
 loop-again : tie.Need-loop-again Inv-loop μ-loop
 loop-again c =
-    let n = c .before .before .before .before .before in
-    let a = n .before .before .before .args in (
-      omega arith,
-      mapped-more _ (n .loop .i) _ (a .out .now) (n .loop .out) (omega arith) (λ j. c .before .before .read-bits .ensures .0 j + 16 * c .read-bits2 .ensures .0 j) (n .loop .inv .1),
-    )
+    let half = c .before .before in
+    let n = half .before .before .before in
+    let a = n .before .before .before .args in
+    let low = half .read-bits .ensures .0 in
+    let high = c .read-bits2 .ensures .0 in
+    (omega arith, mapped-more _ (n .loop .i) _ (a .out .now) (n .loop .out) (omega arith) (λ j. low j + 16 * high j) (n .loop .inv .1))
 
 same-length : tie.Need-same-length Inv-loop μ-loop
 same-length c = c .before .loop .inv .1 .same-length

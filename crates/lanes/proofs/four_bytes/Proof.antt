@@ -1,8 +1,5 @@
--- `four_bytes` reads four bytes, the first one the highest. Assumes nothing.
+-- `four_bytes` reads four bytes, the first one the highest.
 use native.Mathlib.Omega.{arith}
-use Prim.Native.Nat.{ℕ}
-use mathlib.Core.Path.{ap}
-use lib.ListN.{getD}
 use borrow.Author.Needs.{needs}
 use native.Mathlib.Nat.{add-zero}
 use Rattle.lanes.specs.Samplers.{big-endian}
@@ -11,9 +8,7 @@ use Rattle.lanes.proofs.four_bytes.Tie as tie
 
 returns : tie.Need-returns
 unfolding big-endian
-returns c =
-    let a = c .before .before .before .before .before .before .before .before .before .args in
-    (omega (arith, ap (λ (n : ℕ). getD (a .l .now) n 0) (add-zero (a .s))), omega arith)
+returns c = (simp add-zero (omega arith), omega arith)
 
 pub four-bytes-spec : {M : Type 1} → statement M
 four-bytes-spec =

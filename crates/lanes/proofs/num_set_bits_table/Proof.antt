@@ -1,4 +1,4 @@
--- `num_set_bits_table` holds the count of set bits of every byte: one computed test. Assumes nothing.
+-- `num_set_bits_table` holds the count of set bits of every byte: one computed test.
 use mathlib.Core.Path.{refl}
 use Rattle.laws.specs.Lists.{tab, tabFrom}
 use Rattle.laws.specs.Bits.{bit}

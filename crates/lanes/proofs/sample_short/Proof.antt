@@ -1,4 +1,4 @@
--- `sample_short` draws 64 short coefficients. Assumes nothing.
+-- `sample_short` draws 64 short coefficients.
 use Prim.Native.Nat.{ℕ}
 use mathlib.Core.Path.{_∙_, ap}
 use borrow.Author.Needs.{needs}

@@ -1,4 +1,4 @@
--- `sample_uniform` draws 64 uniform coefficients. Assumes nothing.
+-- `sample_uniform` draws 64 uniform coefficients.
 use Prim.Native.Nat.{ℕ}
 use mathlib.Core.Path.{_∙_, ap}
 use borrow.Author.Needs.{needs}

@@ -1,4 +1,4 @@
--- `sample_uniforms` draws as many uniform coefficients as there is room for. The loop's invariant: the first k are drawn. Assumes nothing.
+-- `sample_uniforms` draws as many uniform coefficients as there is room for. The loop's invariant: the first k are drawn.
 use borrow.Author.Needs.{needs}
 use native.Mathlib.Omega.{arith}
 use Prim.Native.Nat.{_*_, _-_, _≤_}

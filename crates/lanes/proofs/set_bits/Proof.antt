@@ -1,4 +1,4 @@
--- `set_bits` looks the count up. Assumes nothing.
+-- `set_bits` looks the count up.
 use Prim.Native.Nat.{ℕ, _≤_}
 use mathlib.Core.Path.{sym, _∙_, ap, subst}
 use lib.ListN.{getD}

@@ -1,4 +1,4 @@
--- `short_at` takes the second number from the first. Assumes nothing.
+-- `short_at` takes the second number from the first.
 use Prim.Native.Nat.{ℕ, _+_, _-_, _%_}
 use mathlib.Core.Path.{sym, _∙_, ap}
 use borrow.Author.Needs.{needs}

@@ -1,4 +1,4 @@
--- `uniform_at` reads nine bytes as a high and a low part and folds the high one in. Assumes nothing.
+-- `uniform_at` reads nine bytes as a high and a low part and folds the high one in.
 use Prim.Native.Nat.{ℕ, _+_, _*_, _%_, _^_}
 use mathlib.Core.Path.{_∙_, ap}
 use borrow.Author.Needs.{needs}

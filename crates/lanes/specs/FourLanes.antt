@@ -1,4 +1,4 @@
--- Four numbers in the four lanes of a coefficient. Assumes nothing.
+-- Four numbers in the four lanes of a coefficient.
 use Prim.Native.Nat.{ℕ, _+_, _*_, _^_}
 
 -- four numbers at 1, 2^16, 2^32 and 2^48
