@@ -1,10 +1,11 @@
--- `followed_by` copies the randomness and sets the byte behind it. Assumes nothing.
+-- `followed_by` copies the randomness and sets the byte behind it.
 use borrow.Author.Needs.{needs}
 use mathlib.Core.List.{List, [], _∷_, _++_}
 use mathlib.Core.Path.{ap, _∙_}
 use Prim.Native.Nat.{ℕ}
 use lib.ListN.{length}
 use lib.Seq.{set-at}
+use Rattle.codec.specs.Sizes.{randomness-bytes}
 use Rattle.seal.proofs.followed_by.Statement.{statement}
 use Rattle.seal.proofs.followed_by.Tie as tie
 
@@ -14,7 +15,7 @@ returns c =
     let start = copied .before .before .before in
     let last = start .args .last in
     let e = copied .copy .ensures in
-    set-at (copied .copy .last .1 .0) 0 [] last 32 (ap length e ∙ start .pre) ∙ ap (λ (l : List ℕ). l ++ (last ∷ [])) e
+    set-at (copied .copy .last .1 .0) 0 [] last randomness-bytes (ap length e ∙ start .pre) ∙ ap (λ (l : List ℕ). l ++ (last ∷ [])) e
 
 pub followed-by-spec : {M : Type 1} → statement M
 followed-by-spec =
