@@ -19,7 +19,7 @@ pub const RANDOMNESS_BYTES: usize = 32;
 
 // ---- bytes and numbers
 // A byte as a number: asks for no proof that it fits.
-fn wide(x: u8) -> u64
+pub fn wide(x: u8) -> u64
     ensures { λ r. ⌜ (r ≡ x) × (r < 256) ⌝ }
 {
     x as u64

@@ -15,7 +15,7 @@ use Rattle.laws.proofs.Lists.{getD-tab, tab-ext, is-tab, length-tab}
 use Rattle.keccak.specs.Keccak.{offset}
 use Rattle.keccak.specs.Lanes.{rot, parity, parities, effect, effects, rotation, source, moved, row, laid, constants, step, rounds, keccak-p}
 use Rattle.keccak.specs.Complement.{flip, differ, over, flips, flipped, complemented, over-parity, over-effect, kept-row}
-use Rattle.keccak.proofs.Assembly.{laid-by, whole}
+use Rattle.keccak.proofs.Assembly.{laid-by, whole, assembled}
 use Rattle.keccak.proofs.Places.{rounds-more}
 use Rattle.keccak.proofs.Rotations.{bit-rot, rot-lt}
 use Rattle.keccak.proofs.Strings.{below-rounds}
@@ -187,6 +187,13 @@ module _ (s : List ℕ) (h : (i : ℕ) → getD s i 0 < 2 ^ 64) where
   kept-round c =
       rows-flip (effects (parities s)) c ∙ ap (λ (d : List ℕ). complemented (laid-by (row (complemented s) d) c)) (sym effects-flip)
       ∙ ap complemented (whole (complemented s) c)
+
+-- and known by other names: what each copy of a round has made
+pub kept-assembled : (a k d p q r s t v : List ℕ) (c : ℕ) → v ≡ laid p q r s t c
+    → p ≡ kept-row a d 0 → q ≡ kept-row a d 1 → r ≡ kept-row a d 2 → s ≡ kept-row a d 3 → t ≡ kept-row a d 4
+    → d ≡ effects k → k ≡ parities a → Below (2 ^ 64) 25 a → v ≡ complemented (step (complemented a) c)
+kept-assembled a k d p q r s t v c ev ep eq er es et ed ek g =
+    assembled (kept-row a) a k d p q r s t v c ek ed ep eq er es et ev ∙ kept-round a (g .each) c
 
 -- the six lanes, one after the other
 abbrev six : List ℕ → List ℕ
