@@ -1,5 +1,5 @@
 -- What follows from demand 3 for packets that were sealed for the key, also through their bytes.
-use mathlib.Core.Path.{_≡_, refl, sym, ap, _∙_}
+use mathlib.Core.Path.{_≡_, refl, ap, _∙_}
 use mathlib.Core.List.{List, [], _∷_, _++_}
 use Prim.Native.Nat.{ℕ, _^_, _<_}
 use native.Mathlib.Nat.{lt-trans}
@@ -8,17 +8,17 @@ use lib.Dec.{lit<}
 use lib.ListN.{length, take}
 use lib.Seq.{take-at, drop-at, take-all}
 use Rattle.laws.specs.Lists.{Below}
-use Rattle.field.specs.Field.{P, Coefficients}
+use Rattle.field.specs.Field.{Coefficients}
 use Rattle.codec.specs.Layout.{words, bytes}
 use Rattle.codec.specs.Sizes.{secret-key-bytes, ciphertext-numbers}
-use Rattle.codec.proofs.Layouts.{words-bytes, bytes-words, bytes-below, length-bytes}
-use Rattle.hash.specs.Fips202.{shake256, sha3-256}
+use Rattle.codec.proofs.Layouts.{words-bytes, length-bytes}
+use Rattle.hash.specs.Fips202.{sha3-256}
 use Rattle.hash.proofs.Outputs.{below-shake256}
 use Rattle.packets.specs.Parameters.{vector-numbers, vector-bytes, key-bytes, seed-bytes, payload-bytes}
 use Rattle.packets.specs.Packets.{Bytes, PublicKey, payload, secret-key, public-key, keygen, sealing, enc, key, dec}
 use Rattle.packets.specs.Layout.{public-bytes, public-of}
-use Rattle.packets.specs.Demand3.{Quiet, Opens}
-use Rattle.packets.proofs.Sizes.{append-below, part-below, public-canonical, sealing-canonical}
+use Rattle.packets.specs.Demand3.{Quiet}
+use Rattle.packets.proofs.Canonical.{append-below, part-below, public-canonical, sealing-canonical}
 use Rattle.packets.proofs.Demand3.{quiet-read, its-key-is}
 
 -- ---- bytes

@@ -10,12 +10,12 @@ use lib.ListN.{length, getD, take}
 use lib.Seq.{ext-getD, take-at, drop-at, take-all}
 use Rattle.laws.specs.Choices.{pick}
 use Rattle.laws.specs.Lists.{part}
-use Rattle.laws.proofs.Tests.{all, all-at, all-of}
+use Rattle.laws.proofs.Tests.{all-at, all-of}
 use Rattle.codec.specs.Sizes.{secret-key-bytes, ciphertext-numbers}
 use Rattle.field.specs.Field.{Coefficients}
 use Rattle.ring.specs.Transform.{transform, untransform}
 use Rattle.ring.specs.Elements.{plus, minus}
-use Rattle.ring.specs.Matrices.{cell, transforms, matrix}
+use Rattle.ring.specs.Matrices.{cell, transforms}
 use Rattle.ring.proofs.Cells.{cell-transforms}
 use Rattle.ring.proofs.Matrices.{dot-ext, matrix-single, bg, bga-m, opened}
 use Rattle.ring.proofs.Products.{minus-canonical}
@@ -30,7 +30,7 @@ use Rattle.packets.specs.Packets.{Bytes, key-of, seed-of, PublicKey, G, 
 use Rattle.packets.specs.Packets.{Opened, key, differs, same, dec}
 use Rattle.packets.specs.Demand3.{noise-of, Read, Quiet, Opens, Demand3}
 use Rattle.packets.proofs.Products.{ga-cell, bg-cell, bga-m-row}
-use Rattle.packets.proofs.Sizes.{first-cell, second-cell, bg-canonical, bga-m-canonical, sealing-canonical}
+use Rattle.packets.proofs.Canonical.{first-cell, second-cell, bg-canonical, bga-m-canonical, sealing-canonical}
 
 -- ---- the comparison
 same-refl : (n : ℕ) (s : List ℕ) → T (same n s s)

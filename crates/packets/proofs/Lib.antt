@@ -2,4 +2,4 @@
 pub mod Demand3
 pub mod Products
 pub mod Delivery
-pub mod Sizes
+pub mod Canonical

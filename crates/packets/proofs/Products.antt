@@ -15,7 +15,7 @@ use Rattle.lanes.specs.Messages.{embed}
 use Rattle.lanes.proofs.Messages.{embed-canonical}
 use Rattle.packets.specs.Parameters.{vector-numbers}
 use Rattle.packets.specs.Packets.{G, first, second, ga-of, bg-of, bga-m-of}
-use Rattle.packets.proofs.Sizes.{G-cell, first-cell, second-cell}
+use Rattle.packets.proofs.Canonical.{G-cell, first-cell, second-cell}
 
 -- a transformed row times a transformed column, plus a transformed element: in the ring
 back : (n : ℕ) (u v : ℕ → List ℕ) (e : List ℕ) → ((i : ℕ) → Coefficients 64 (u i)) → ((i : ℕ) → Coefficients 64 (v i)) → Coefficients 64 e

@@ -10,7 +10,7 @@ use Rattle.lanes.specs.Messages.{embed, extract}
 use Rattle.noise.specs.Noise.{Lanes, limit, noise}
 use Rattle.hash.specs.Fips202.{sha3-256}
 use Rattle.packets.specs.Parameters.{payload-bytes}
-use Rattle.packets.specs.Packets.{Bytes, key-of, first, second, public-key, sealing, Opened, key, dec}
+use Rattle.packets.specs.Packets.{Bytes, key-of, first, second, public-key, sealing, key, dec}
 
 module _ (count : ℕ → ℕ) where
   -- b·c - d·a, with a, c the key's short vectors and b, d the payload's; products and sums are those of the ring

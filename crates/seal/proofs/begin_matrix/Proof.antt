@@ -1,8 +1,6 @@
 -- `begin_matrix` draws G's bytes up to the cut.
 use borrow.Author.Needs.{needs}
 use native.Mathlib.Omega.{arith}
-use mathlib.Core.Path.{_≡_}
-use lib.ListN.{length, take}
 use lib.Seq.{length-take-le}
 use Rattle.seal.specs.Sealing.{cut}
 use Rattle.seal.proofs.Streams.{begins}

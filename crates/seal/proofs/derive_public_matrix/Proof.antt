@@ -4,7 +4,7 @@ use mathlib.Core.Path.{_∙_}
 use Rattle.lanes.specs.Samplers.{uniforms}
 use Rattle.packets.specs.Parameters.{matrix-bytes}
 use Rattle.packets.specs.Packets.{G}
-use Rattle.packets.proofs.Sizes.{G-canonical}
+use Rattle.packets.proofs.Canonical.{G-canonical}
 use Rattle.seal.proofs.Vectors.{told-canonical}
 use Rattle.seal.proofs.derive_public_matrix.Statement.{statement}
 use Rattle.seal.proofs.derive_public_matrix.Tie as tie

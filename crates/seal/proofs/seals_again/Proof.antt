@@ -1,6 +1,6 @@
 -- `seals_again` samples G, makes ga and the ciphertext, and compares.
 use borrow.Author.Needs.{needs}
-use mathlib.Core.Path.{_≡_, ap, _∙_}
+use mathlib.Core.Path.{ap, _∙_}
 use mathlib.Core.List.{List}
 use Prim.Native.Nat.{ℕ}
 use Rattle.codec.specs.Sizes.{ciphertext-numbers}

@@ -1,11 +1,10 @@
 -- Keys and packets have the sizes of document 01, with canonical coefficients.
-use mathlib.Core.Path.{_≡_, sym, ap, _∙_, subst}
-use mathlib.Core.List.{List, [], _∷_, _++_}
-use mathlib.Core.Logic.{⊎-elim}
-use Prim.Native.Nat.{ℕ, zero, suc, _+_, _*_, _≤_, _<_}
+use mathlib.Core.Path.{_≡_, _∙_}
+use mathlib.Core.List.{List, _++_}
+use Prim.Native.Nat.{ℕ, _+_, _*_, _≤_, _<_}
 use native.Mathlib.Omega.{arith}
 use lib.Dec.{lit<}
-use lib.ListN.{length, getD, take, drop, length-append, length-drop}
+use lib.ListN.{getD, take, drop, length-append, length-drop}
 use lib.Seq.{length-take-le}
 use Rattle.laws.specs.Lists.{Below, part}
 use Rattle.laws.proofs.Lists.{getD-tab, each-append, each-take, each-drop}
@@ -16,7 +15,7 @@ use Rattle.ring.proofs.Cells.{cell-canonical}
 use Rattle.ring.proofs.Products.{plus-canonical}
 use Rattle.lanes.specs.Samplers.{uniform, uniforms}
 use Rattle.lanes.proofs.Samplers.{uniforms-canonical, shorts-canonical}
-use Rattle.hash.specs.Fips202.{shake256, sha3-256}
+use Rattle.hash.specs.Fips202.{shake256}
 use Rattle.packets.specs.Parameters.{vector-numbers, matrix-numbers, matrix-bytes, vector-bytes, vectors-bytes}
 use Rattle.packets.specs.Packets.{PublicKey, G, first, second, ga-of, public-key, bg-of, bga-m-of, sealing}
 
@@ -31,12 +30,6 @@ pub part-below : (b k n m : ℕ) (l : List ℕ) → 0 < b → k + n ≤ m → Be
 part-below b k n m l pos h hl = record {
   size = length-take-le n (drop k l) (omega (arith, length-drop k l, hl .size));
   each = each-take b pos n (drop k l) (each-drop b pos k l (hl .each));
-}
-
-pub take-below : (b n m : ℕ) (l : List ℕ) → 0 < b → n ≤ m → Below b m l → Below b n (take n l)
-take-below b n m l pos h hl = record {
-  size = length-take-le n l (omega (arith, hl .size));
-  each = each-take b pos n l (hl .each);
 }
 
 -- ---- keys and packets
