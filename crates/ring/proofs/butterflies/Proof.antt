@@ -1,5 +1,6 @@
 -- `butterflies` does the t butterflies of one block.
 use borrow.Author.Needs.{needs}
+use native.Mathlib.Nat.{le-of-lt}
 use native.Mathlib.Omega.{arith}
 use Prim.Native.Nat.{_-_}
 use lib.ListN.{length-set}
@@ -17,7 +18,7 @@ abbrev μ-loop : tie.MeasureT-loop
 μ-loop array₀ s t zeta j₀ j-end array j = j-end - j
 
 sub-mod-p-requires : tie.Need-sub-mod-p-requires Inv-loop μ-loop
-sub-mod-p-requires c κs = (search (needs, turned-low), search (needs, turned-low))
+sub-mod-p-requires c κs = (search (needs, turned-low), le-of-lt (search (needs, turned-low)))
 
 loop-again : tie.Need-loop-again Inv-loop μ-loop
 loop-again c =
