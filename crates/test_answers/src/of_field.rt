@@ -30,7 +30,7 @@ fn tell_inverse(a: u64) {
 
 // One operand.
 fn answer_one(op: u64) {
-    let a = test_lines::read_number();
+    let a = test_lines::read_digits(16);
     if op == NEG {
         test_lines::tell(BFieldElement::new(a).neg().value());
     } else if op == INV {
@@ -56,8 +56,8 @@ fn of_two(op: u64, a: u64, b: u64) -> u64 {
 
 // Two operands.
 fn answer_two(op: u64) {
-    let a = test_lines::read_number();
-    let b = test_lines::read_number();
+    let a = test_lines::read_digits(16);
+    let b = test_lines::read_digits(16);
     test_lines::tell(of_two(op, a, b));
 }
 

@@ -3,7 +3,7 @@ use field::BFieldElement;
 use libc::STDIN_FILENO;
 use libc::STDOUT_FILENO;
 ghost use mathlib.Core.Path.{_≡_};
-ghost use Prim.Native.Nat.{_<_};
+ghost use Prim.Native.Nat.{_<_, _≤_};
 ghost use lib.ListN.{length};
 ghost use Rattle.field.specs.Field.{P, Coefficients};
 
@@ -32,8 +32,8 @@ pub fn digit(byte: u8) -> u64
     }
 }
 
-// The number that 16 digits stand for.
-pub fn number(digits: &[u8]) -> u64 {
+// The number that digits stand for, at most 16 of them.
+fn number(digits: &[u8]) -> u64 {
     let mut x: u64 = 0;
     for i in 0..digits.len() {
         x = x % 0x1000_0000_0000_0000 * 16 + digit(digits[i]);
@@ -48,17 +48,21 @@ fn read_part() -> [u8; 17] {
     part
 }
 
-// It as a number.
-pub fn read_number() -> u64 {
-    let part = read_part();
-    number(&part[1..17])
+// A space and n digits, as a number.
+pub fn read_digits(n: usize) -> u64
+    requires { ⌜ n ≤ 16 ⌝ }
+{
+    let mut part = [0u8; 17];
+    let end = n + 1;
+    io::read_full(STDIN_FILENO, &mut part[0..end]);
+    number(&part[1..end])
 }
 
-// It as a canonical number.
+// An operand as a canonical number.
 fn read_coefficient() -> u64
     ensures { λ r. ⌜ r < P ⌝ }
 {
-    read_number() % BFieldElement::P
+    read_digits(16) % BFieldElement::P
 }
 
 // As many operands as out has room for.

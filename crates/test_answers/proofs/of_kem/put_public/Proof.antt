@@ -16,7 +16,8 @@ use Rattle.test_answers.proofs.of_kem.put_public.Statement.{statement}
 use Rattle.test_answers.proofs.of_kem.put_public.Tie as tie
 
 -- bytes that are a seed and then packed coefficients
-canonical : (q ga r l : List ℕ) → length q ≡ 32 → Coefficients 256 ga → r ≡ bytes ga → l ≡ q ++ r → (length l ≡ 2080) × Coefficients 256 (public-of l .ga)
+canonical : (q ga r l : List ℕ) → length q ≡ 32 → Coefficients 256 ga → r ≡ bytes ga → l ≡ q ++ r
+    → (length l ≡ 2080) × Coefficients 256 (public-of l .ga)
 unfolding public-bytes
 canonical q ga r l hq hg e p =
     let pk : PublicKey = record { seed = q; ga = ga } in
@@ -26,7 +27,8 @@ returns : tie.Need-returns
 returns c =
     let packed = c .before .before in
     let copied = packed .before .before .before .before in
-    let given = copied .before .before .before .before .before .args in
+    let start = copied .before .before .before .before in
+    let given = start .before .args in
     let q = copied .copy .last .1 .0 in
     let r = packed .pack .last .1 .0 in
     let ga = given .ga .now in

@@ -1,6 +1,4 @@
 // A question: the call's word, four arguments and two places that are set.
-use libc::STDIN_FILENO;
-
 pub struct Argument {
     pub length: usize,
     pub seed: u64,
@@ -23,21 +21,17 @@ pub struct Question {
 }
 
 fn read_argument() -> Argument {
-    let mut text = [0u8; 22];
-    io::read_full(STDIN_FILENO, &mut text);
     Argument {
-        length: test_lines::number(&text[1..5]) as usize,
-        seed: test_lines::number(&text[6..22]),
+        length: test_lines::read_digits(4) as usize,
+        seed: test_lines::read_digits(16),
     }
 }
 
 fn read_place() -> Place {
-    let mut text = [0u8; 24];
-    io::read_full(STDIN_FILENO, &mut text);
     Place {
-        argument: test_lines::number(&text[1..2]),
-        index: test_lines::number(&text[3..7]) as usize,
-        value: test_lines::number(&text[8..24]),
+        argument: test_lines::read_digits(1),
+        index: test_lines::read_digits(4) as usize,
+        value: test_lines::read_digits(16),
     }
 }
 

@@ -114,49 +114,75 @@ fn hash_call(call: u64, message: &[u8], output: &mut [u8]) -> Answer {
     }
 }
 
-// In place: 65 numbers are drawn again to compare with.
-fn answer_array(q: Question, array: &mut [u64]) {
-    let mut before = [0u64; 65];
-    arguments::draw_coefficients(array, q.first.seed, q, 1);
-    arguments::draw_coefficients(&mut before, q.first.seed, q, 1);
-    let answer = array_call(q.call, array);
-    if tell::done(answer, arguments::same_numbers(&before, array)) {
-        tell::numbers(array);
+// In place.
+fn answer_array(q: Question) {
+    let n = q.first.length % 1026;
+    let before = arguments::coefficients(q, 1, q.first.seed);
+    let mut array = before;
+    let answer = array_call(q.call, &mut array[0..n]);
+    tell::filled_numbers(answer, before, array, n);
+}
+
+// With the operands lent.
+fn answer_lent(q: Question, lhs: &[u64], rhs: &[u64]) {
+    let n = q.third.length % 1026;
+    let before = arguments::output(q.third.seed);
+    let mut out = before;
+    let answer = operands_call(q.call, lhs, rhs, &mut out[0..n]);
+    tell::filled_numbers(answer, before, out, n);
+}
+
+fn answer_operands(q: Question) {
+    let m = q.first.length % 1026;
+    let n = q.second.length % 1026;
+    let lhs = arguments::coefficients(q, 1, q.first.seed);
+    let rhs = arguments::coefficients(q, 2, q.second.seed);
+    answer_lent(q, &lhs[0..m], &rhs[0..n]);
+}
+
+// With the bytes lent: one number, numbers, or bytes are answered.
+fn answer_sampling(q: Question, randomness: &[u8]) {
+    let n = q.second.length % 1026;
+    let before = arguments::output(q.second.seed);
+    let mut out = before;
+    let answer = sampling_call(q.call, randomness, &mut out[0..n]);
+    tell::filled_numbers(answer, before, out, n);
+}
+
+fn answer_hash(q: Question, message: &[u8]) {
+    let n = q.second.length % 9218;
+    let mut out = arguments::bytes(q.second.seed);
+    let answer = hash_call(q.call, message, &mut out[0..n]);
+    tell::filled_bytes(answer, out, n, q.second.seed);
+}
+
+fn answer_of(q: Question, bytes: &[u8]) {
+    if q.call == SBFE {
+        tell::given(galmuriec::lanes::sample_short_bfield_element(bytes));
+    } else if q.call == SHAK || q.call == SHA3 {
+        answer_hash(q, bytes);
+    } else {
+        answer_sampling(q, bytes);
     }
 }
 
-fn answer_operands(q: Question, lhs: &mut [u64], rhs: &mut [u64], out: &mut [u64]) {
-    arguments::draw_coefficients(lhs, q.first.seed, q, 1);
-    arguments::draw_coefficients(rhs, q.second.seed, q, 2);
-    arguments::draw_output(out, q.third.seed);
-    let answer = operands_call(q.call, lhs, rhs, out);
-    tell::filled_numbers(answer, out, q.third.seed);
+fn answer_bytes(q: Question) {
+    let n = q.first.length % 9218;
+    let bytes = arguments::bytes(q.first.seed);
+    answer_of(q, &bytes[0..n]);
 }
 
-fn answer_short_coefficient(q: Question, randomness: &mut [u8]) {
-    arguments::draw_bytes(randomness, q.first.seed);
-    tell::given(galmuriec::lanes::sample_short_bfield_element(randomness));
+fn extract(q: Question, embedding: &[u64]) {
+    let n = q.second.length % 9218;
+    let mut out = arguments::bytes(q.second.seed);
+    let answer = galmuriec::lanes::extract_msg(embedding, &mut out[0..n]);
+    tell::filled_bytes(answer, out, n, q.second.seed);
 }
 
-fn answer_sampling(q: Question, randomness: &mut [u8], out: &mut [u64]) {
-    arguments::draw_bytes(randomness, q.first.seed);
-    arguments::draw_output(out, q.second.seed);
-    let answer = sampling_call(q.call, randomness, out);
-    tell::filled_numbers(answer, out, q.second.seed);
-}
-
-fn answer_extraction(q: Question, embedding: &mut [u64], out: &mut [u8]) {
-    arguments::draw_coefficients(embedding, q.first.seed, q, 1);
-    arguments::draw_bytes(out, q.second.seed);
-    let answer = galmuriec::lanes::extract_msg(embedding, out);
-    tell::filled_bytes(answer, out, q.second.seed);
-}
-
-fn answer_hash(q: Question, message: &mut [u8], output: &mut [u8]) {
-    arguments::draw_bytes(message, q.first.seed);
-    arguments::draw_bytes(output, q.second.seed);
-    let answer = hash_call(q.call, message, output);
-    tell::filled_bytes(answer, output, q.second.seed);
+fn answer_extraction(q: Question) {
+    let n = q.first.length % 1026;
+    let embedding = arguments::coefficients(q, 1, q.first.seed);
+    extract(q, &embedding[0..n]);
 }
 
 fn is_field_call(call: u64) -> bool {
@@ -174,54 +200,25 @@ fn is_operands_call(call: u64) -> bool {
     call == RADD || call == RSUB || call == RMUL || call == MTCO || call == RTMA || call == RTCO
 }
 
-// With the arguments lent, as numbers and as bytes.
-fn answer_lent(
-    q: Question,
-    numbers1: &mut [u64],
-    numbers2: &mut [u64],
-    numbers3: &mut [u64],
-    bytes1: &mut [u8],
-    bytes2: &mut [u8],
-) -> bool {
-    let call = q.call;
-    if is_field_call(call) {
-        tell::given(field_call(call, q.first.seed, q.second.seed));
-    } else if call == NTTF || call == NTTI {
-        answer_array(q, numbers1);
-    } else if is_operands_call(call) {
-        answer_operands(q, numbers1, numbers2, numbers3);
-    } else if call == SBFE {
-        answer_short_coefficient(q, bytes1);
-    } else if call == SSHO || call == SUNI || call == EMBD {
-        answer_sampling(q, bytes1, numbers2);
-    } else if call == EXTR {
-        answer_extraction(q, numbers1, bytes2);
-    } else if call == SHAK || call == SHA3 {
-        answer_hash(q, bytes1, bytes2);
-    } else {
-        return false;
-    }
-    true
+fn is_bytes_call(call: u64) -> bool {
+    call == SBFE || call == SSHO || call == SUNI || call == EMBD || call == SHAK || call == SHA3
 }
 
 // False where the word is of none of these calls.
 pub fn answer(q: Question) -> bool {
-    let mut numbers1 = [0u64; 1025];
-    let mut numbers2 = [0u64; 1025];
-    let mut numbers3 = [0u64; 257];
-    let mut bytes1 = [0u8; 577];
-    let mut bytes2 = [0u8; 9217];
-    let k = arguments::fitting(q.first.length, 1025);
-    let l = arguments::fitting(q.second.length, 1025);
-    let m = arguments::fitting(q.third.length, 257);
-    let s = arguments::fitting(q.first.length, 577);
-    let t = arguments::fitting(q.second.length, 9217);
-    answer_lent(
-        q,
-        &mut numbers1[0..k],
-        &mut numbers2[0..l],
-        &mut numbers3[0..m],
-        &mut bytes1[0..s],
-        &mut bytes2[0..t],
-    )
+    let call = q.call;
+    if is_field_call(call) {
+        tell::given(field_call(call, q.first.seed, q.second.seed));
+    } else if call == NTTF || call == NTTI {
+        answer_array(q);
+    } else if is_operands_call(call) {
+        answer_operands(q);
+    } else if call == EXTR {
+        answer_extraction(q);
+    } else if is_bytes_call(call) {
+        answer_bytes(q);
+    } else {
+        return false;
+    }
+    true
 }

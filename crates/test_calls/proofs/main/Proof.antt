@@ -1,8 +1,8 @@
--- `main` ends: it counts what was asked. Assumes nothing.
+-- `main` ends: it counts what was asked.
 use borrow.Author.Needs.{needs}
 use Prim.Native.Nat.{_-_, _≤_}
-use Rattle.calls_answers.proofs.main.Statement.{statement}
-use Rattle.calls_answers.proofs.main.Tie as tie
+use Rattle.test_calls.proofs.main.Statement.{statement}
+use Rattle.test_calls.proofs.main.Tie as tie
 
 abbrev Inv-loop : tie.InvT-loop
 Inv-loop asked₀ asked = asked ≤ 100_000_000

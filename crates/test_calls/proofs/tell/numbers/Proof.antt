@@ -1,10 +1,10 @@
--- `numbers` is safe and ends; its loop goes over the numbers. Assumes nothing.
+-- `numbers` is safe and ends; its loop goes over the numbers.
 use borrow.Author.Needs.{needs}
 use Prim.Native.Nat.{_-_, _≤_}
 use mathlib.Core.Path.{_≡_}
 use lib.ListN.{length}
-use Rattle.calls_answers.proofs.tell.numbers.Statement.{statement}
-use Rattle.calls_answers.proofs.tell.numbers.Tie as tie
+use Rattle.test_calls.proofs.tell.numbers.Statement.{statement}
+use Rattle.test_calls.proofs.tell.numbers.Tie as tie
 
 abbrev Inv-loop : tie.InvT-loop
 Inv-loop s i₀ i-end i = (i ≤ i-end) × (i-end ≡ length s)

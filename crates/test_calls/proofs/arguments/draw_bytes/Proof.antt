@@ -1,10 +1,10 @@
--- `draw_bytes` is safe and ends; its loop goes over the slice and keeps its length. Assumes nothing.
+-- `draw_bytes` is safe and ends; its loop goes over the slice and keeps its length.
 use borrow.Author.Needs.{needs}
 use Prim.Native.Nat.{_-_, _≤_}
 use mathlib.Core.Path.{_≡_}
 use lib.ListN.{length}
-use Rattle.calls_answers.proofs.arguments.draw_bytes.Statement.{statement}
-use Rattle.calls_answers.proofs.arguments.draw_bytes.Tie as tie
+use Rattle.test_calls.proofs.arguments.draw_bytes.Statement.{statement}
+use Rattle.test_calls.proofs.arguments.draw_bytes.Tie as tie
 
 abbrev Inv-loop : tie.InvT-loop
 Inv-loop s₀ seed x₀ i₀ i-end s x i = (i ≤ i-end) × (i-end ≡ length s₀) × (length s ≡ length s₀)

@@ -1,9 +1,9 @@
--- `same_numbers` is safe and ends; its loop goes over both slices. Assumes nothing.
+-- `same_numbers` is safe and ends; its loop goes over both slices.
 use borrow.Author.Needs.{needs}
 use Prim.Native.Nat.{_-_, _≤_}
 use lib.ListN.{length}
-use Rattle.calls_answers.proofs.arguments.same_numbers.Statement.{statement}
-use Rattle.calls_answers.proofs.arguments.same_numbers.Tie as tie
+use Rattle.test_calls.proofs.arguments.same_numbers.Statement.{statement}
+use Rattle.test_calls.proofs.arguments.same_numbers.Tie as tie
 
 abbrev Inv-loop : tie.InvT-loop
 Inv-loop a b i₀ i = i ≤ length a

@@ -1,10 +1,10 @@
--- `kept_bytes` is safe and ends; its loop goes over the slice. Assumes nothing.
+-- `kept_bytes` is safe and ends; its loop goes over the slice.
 use borrow.Author.Needs.{needs}
 use Prim.Native.Nat.{_-_, _≤_}
 use mathlib.Core.Path.{_≡_}
 use lib.ListN.{length}
-use Rattle.calls_answers.proofs.arguments.kept_bytes.Statement.{statement}
-use Rattle.calls_answers.proofs.arguments.kept_bytes.Tie as tie
+use Rattle.test_calls.proofs.arguments.kept_bytes.Statement.{statement}
+use Rattle.test_calls.proofs.arguments.kept_bytes.Tie as tie
 
 abbrev Inv-loop : tie.InvT-loop
 Inv-loop s seed from x₀ i₀ i-end x i = (i ≤ i-end) × (i-end ≡ length s)
