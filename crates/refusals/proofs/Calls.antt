@@ -128,7 +128,7 @@ unfolding given-two-of
 given-two-back (Values x y) = refl
 given-two-back (NeitherGiven r) = ap NeitherGiven (refusal-back r)
 
--- ---- so what a contract allows is one answer and one content of each buffer, whichever of the four it is
+-- ---- so what a contract allows is one answer and one content of each buffer, whichever shape it has
 pub fills-one : (args : List Asked) (v w : Answer) (given : Told) (lent : List Lent) (new new′ : List (List ℕ))
     → Call args given (said v) lent new → Call args given (said w) lent new′ → (v ≡ w) × (new ≡ new′)
 fills-one args v w given lent new new′ = call-one (record { tell = said; back = answer-of; back-tell = answer-back }) v w args given lent new new′
@@ -142,8 +142,9 @@ pub gives-two-one : (args : List Asked) (v w : GivenTwo) (given : Told) (lent : 
 gives-two-one args v w given lent new new′ =
     call-one (record { tell = told-two; back = given-two-of; back-tell = given-two-back }) v w args given lent new new′
 
--- ---- the good end of each of the four
-pub gives-done : (v : Answer) (args : List Asked) (x y : ℕ) → v ≡ Done → said v ≡ judged args → x ≡ y → Call args (gives (y ∷ [])) (gives (x ∷ [])) [] []
+-- ---- the good end of each shape
+pub gives-done : (v : Answer) (args : List Asked) (x y : ℕ) → v ≡ Done → said v ≡ judged args → x ≡ y
+    → Call args (gives (y ∷ [])) (gives (x ∷ [])) [] []
 gives-done v args x y e f g = done v args _ _ _ _ e f (ap (λ (z : ℕ). gives (z ∷ [])) g) refl
 
 pub gives-two-done : (v : Answer) (args : List Asked) (x y x′ y′ : ℕ) → v ≡ Done → said v ≡ judged args → x ≡ x′ → y ≡ y′

@@ -1,5 +1,5 @@
--- A call is refused exactly when document 01's table says, by the number, argument and place that it says, for any list of arguments: the statements are
--- specs/Exactly. What is said of `tested` holds for any list of tests, so that a further test needs no proof of its own.
+-- A call is refused exactly when document 01's table says, by the number, argument and place that it says, for any list of arguments: the
+-- statements are specs/Exactly. What is said of `tested` holds for any list of tests, so that a further test needs no proof of its own.
 use mathlib.Core.Bool.{Bool, true, false}
 use mathlib.Core.Path.{_≡_, refl, sym, ap, _∙_, subst}
 use mathlib.Core.List.{List, [], _∷_}
@@ -13,8 +13,8 @@ use borrow.Author.Tests.{lt-ltb, le-ltb, ltb-true, ltb-false}
 use Rattle.laws.specs.Choices.{pick}
 use Rattle.field.specs.Field.{P}
 use Rattle.refusals.specs.Arguments.{Asked, anything, fits, coefficients}
-use Rattle.refusals.specs.Judgement.{Told, No, sign, gives, refuses, fine, Fault, no-fault, fault, unless, lead, found, looked, lengths, canonicals}
-use Rattle.refusals.specs.Judgement.{blame, passed, tested, judged}
+use Rattle.refusals.specs.Judgement.{Told, No, sign, gives, refuses, fine, Fault, no-fault, fault, unless}
+use Rattle.refusals.specs.Judgement.{lead, found, looked, lengths, canonicals, blame, passed, tested, judged}
 use Rattle.refusals.specs.Exactly.{the, Canonical, Misfit, Bad, Clean, Exactly-1, Exactly-2, Exactly-0}
 use Rattle.refusals.proofs.Leads.{lead-before, lead-at, lead-all, all-lead, lead-is}
 use Rattle.refusals.proofs.Steps.{looked-some}
@@ -279,7 +279,8 @@ abbrev sign-of : Told → No
 sign-of (gives xs) = sign 0 0 0
 sign-of (refuses r) = r
 
-same-sign : (t u : Told) → t ≡ u → (sign-of t .number ≡ sign-of u .number) × (sign-of t .argument ≡ sign-of u .argument) × (sign-of t .place ≡ sign-of u .place)
+same-sign : (t u : Told) → t ≡ u
+    → (sign-of t .number ≡ sign-of u .number) × (sign-of t .argument ≡ sign-of u .argument) × (sign-of t .place ≡ sign-of u .place)
 same-sign t u e = rw e (refl, refl, refl)
 
 pub exactly-0 : Exactly-0
@@ -312,12 +313,15 @@ exactly-2 args k i = (λ e. go e (three args), told-2 args k i)
     go e (inr (inr c)) = let s = same-sign _ _ (sym e ∙ told-0 args c) in absurd (omega (arith, s .0))
 
 -- and nothing else is ever told: no other number, and no other argument or place
-pub one-of-three : (args : List Asked)
-    → ((k : ℕ) × (judged args ≡ refuses (sign 1 (1 + k) 0))) ⊎ (((k : ℕ) × (i : ℕ) × (judged args ≡ refuses (sign 2 (1 + k) i))) ⊎ (judged args ≡ fine))
+abbrev OneOfThree : List Asked → Type 0
+OneOfThree args =
+    ((k : ℕ) × (judged args ≡ refuses (sign 1 (1 + k) 0)))
+    ⊎ (((k : ℕ) × (i : ℕ) × (judged args ≡ refuses (sign 2 (1 + k) i))) ⊎ (judged args ≡ fine))
+
+pub one-of-three : (args : List Asked) → OneOfThree args
 one-of-three args = go (three args)
   where
-    go : Three args
-        → ((k : ℕ) × (judged args ≡ refuses (sign 1 (1 + k) 0))) ⊎ (((k : ℕ) × (i : ℕ) × (judged args ≡ refuses (sign 2 (1 + k) i))) ⊎ (judged args ≡ fine))
+    go : Three args → OneOfThree args
     go (inl w) = inl (w .0, told-1 args (w .0) (w .1))
     go (inr (inl w)) = inr (inl (w .0, w .1, told-2 args (w .0) (w .1) (w .2)))
     go (inr (inr c)) = inr (inr (told-0 args c))

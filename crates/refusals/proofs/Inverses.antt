@@ -15,11 +15,15 @@ use Rattle.field.specs.declared.Inverted.the-variants.{Inverse, OfZero}
 use Rattle.field.proofs.Elements.{element-stands}
 use Rattle.field.proofs.Fermat.{inverse-is}
 use Rattle.field.proofs.Inverses.{inverted-zero, inverted-other}
-use Rattle.refusals.specs.Judgement.{gives, refuses, sign}
-use Rattle.refusals.specs.Answers.{told}
+use Rattle.refusals.specs.Arguments.{value}
+use Rattle.refusals.specs.Judgement.{gives, refuses, sign, judged}
+use Rattle.refusals.specs.Answers.{said, told, Call}
+use Rattle.refusals.specs.declared.Answer.{Answer}
+use Rattle.refusals.specs.declared.Answer.the-variants.{Done}
 use Rattle.refusals.specs.declared.Given.the-variants.{Value, NotGiven}
 use Rattle.refusals.specs.declared.Refusal.the-variants.{InverseOfZero}
 use Rattle.refusals.specs.Inverses.{inverse-told}
+use Rattle.refusals.proofs.Calls.{as-asked, done}
 
 -- refusal 4 for 0 alone,
 pub told-zero : inverse-told 0 ≡ refuses (sign 4 1 0)
@@ -41,14 +45,14 @@ zero-other e q = let z : _≡_ {A = ℕ} 0 1 = cc in absurd (omega arith)
 same-number : (e f : BFieldElement) → Inverse e ≡ Inverse f → num f ≡ num e
 same-number e f q = cc
 
-pub of-zero : (a : ℕ) → inverted a ≡ OfZero → told (NotGiven InverseOfZero) ≡ inverse-told a
+of-zero : (a : ℕ) → inverted a ≡ OfZero → told (NotGiven InverseOfZero) ≡ inverse-told a
 of-zero a e = go (eq-zero-or-pos a)
   where
     go : (a ≡ 0) ⊎ (0 < a) → told (NotGiven InverseOfZero) ≡ inverse-told a
     go (inl z) = rw z (sym told-zero)
     go (inr l) = zero-other _ (sym e ∙ inverted-other a l)
 
-pub of-other : (a : ℕ) (f : BFieldElement) → inverted a ≡ Inverse f → told (Value (num f)) ≡ inverse-told a
+of-other : (a : ℕ) (f : BFieldElement) → inverted a ≡ Inverse f → told (Value (num f)) ≡ inverse-told a
 of-other a f e = go (eq-zero-or-pos a)
   where
     go : (a ≡ 0) ⊎ (0 < a) → told (Value (num f)) ≡ inverse-told a
@@ -58,5 +62,17 @@ of-other a f e = go (eq-zero-or-pos a)
         ap (λ (x : ℕ). gives (x ∷ [])) number ∙ sym (told-power a l)
 
 -- what the field answers for the element of a canonical number
-pub answered : (a : ℕ) (x : BFieldElement) (r : Inverted) → a < P → num x ≡ a % P → r ≡ inverted (num x) → inverted a ≡ r
+answered : (a : ℕ) (x : BFieldElement) (r : Inverted) → a < P → num x ≡ a % P → r ≡ inverted (num x) → inverted a ≡ r
 answered a x r l e f = ap inverted (sym (e ∙ mod-eq-of-lt l)) ∙ sym f
+
+-- ---- so the two good ends of a call that asks for an inverse
+module _ (v : Answer) (a : ℕ) (x : BFieldElement) (r : Inverted) (v-done : v ≡ Done) (v-said : said v ≡ judged (value a ∷ []))
+    (x-is : num x ≡ a % P) (r-is : r ≡ inverted (num x)) where
+  field-says : inverted a ≡ r
+  field-says = answered a x r (as-asked v (value a ∷ []) v-done v-said .0) x-is r-is
+
+  pub zero-refused : r ≡ OfZero → Call (value a ∷ []) (inverse-told a) (refuses (sign 4 1 0)) [] []
+  zero-refused e = done v _ _ _ _ _ v-done v-said (of-zero a (field-says ∙ e)) refl
+
+  pub inverse-done : (e : BFieldElement) (n : ℕ) → r ≡ Inverse e → n ≡ num e → Call (value a ∷ []) (inverse-told a) (gives (n ∷ [])) [] []
+  inverse-done e n f g = done v _ _ _ _ _ v-done v-said (rw g (of-other a e (field-says ∙ f))) refl

@@ -67,7 +67,9 @@ lead-is s i bad before = (exact, inside)
     not-sooner l = omega (arith, before (lead s) l, lead-at s (omega (arith, inside)))
 
     exact : lead s ≡ i
-    exact = ⊎-elim (λ a. ⊎-elim (λ b. omega arith) (λ b. absurd (not-sooner b)) (le-or-lt i (lead s))) (λ a. absurd (not-later a)) (le-or-lt (lead s) i)
+    exact =
+        ⊎-elim (λ a. ⊎-elim (λ b. omega arith) (λ b. absurd (not-sooner b)) (le-or-lt i (lead s)))
+        (λ a. absurd (not-later a)) (le-or-lt (lead s) i)
 
 -- ---- a loop that looks for it: on, found, at the end
 pub lead-more : (s : List ℕ) (i : ℕ) → i < length s → getD s i 0 < P → lead s ≡ i + lead (drop i s) → lead s ≡ i + 1 + lead (drop (i + 1) s)

@@ -2,6 +2,7 @@
 -- stands for an argument whose coefficients must be canonical; one that is not looked into stands by its length alone.
 use mathlib.Core.List.{List, [], _∷_}
 use Prim.Native.Nat.{ℕ}
+use Rattle.codec.specs.Sizes.{secret-key-bytes, public-key-bytes, ciphertext-numbers, ciphertext-bytes, shared-key-bytes, randomness-bytes}
 use Rattle.refusals.specs.Arguments.{Asked, value, numbers, packed, room, at-most}
 
 -- ---- field: a value counts as a coefficient with index 0; an exponent may be any number
@@ -75,21 +76,23 @@ shake256 message output = at-most 135 message ∷ at-most 9216 output ∷ []
 abbrev pub sha3-256 : ℕ → ℕ → List Asked
 sha3-256 message output = at-most 135 message ∷ room 32 output ∷ []
 
--- ---- kem: a public key is seed 32 and 256 coefficients, a ciphertext 320, in bytes or as numbers
+-- ---- kem: a public key is a seed of 32 bytes and then coefficients, a ciphertext all coefficients, in bytes or as numbers
 abbrev pub keygen : ℕ → ℕ → ℕ → List Asked
-keygen randomness secret public = room 32 randomness ∷ room 64 secret ∷ room 2080 public ∷ []
+keygen randomness secret public = room randomness-bytes randomness ∷ room secret-key-bytes secret ∷ room public-key-bytes public ∷ []
 
 abbrev pub enc : List ℕ → ℕ → ℕ → ℕ → List Asked
-enc public randomness shared ciphertext = packed 2080 32 public ∷ room 32 randomness ∷ room 32 shared ∷ room 2560 ciphertext ∷ []
+enc public randomness shared ciphertext =
+    packed public-key-bytes 32 public ∷ room randomness-bytes randomness ∷ room shared-key-bytes shared ∷ room ciphertext-bytes ciphertext ∷ []
 
 abbrev pub enc-numbers : List ℕ → ℕ → ℕ → ℕ → List Asked
-enc-numbers public randomness shared ciphertext = packed 2080 32 public ∷ room 32 randomness ∷ room 32 shared ∷ room 320 ciphertext ∷ []
+enc-numbers public randomness shared ciphertext =
+    packed public-key-bytes 32 public ∷ room randomness-bytes randomness ∷ room shared-key-bytes shared ∷ room ciphertext-numbers ciphertext ∷ []
 
 abbrev pub dec : ℕ → List ℕ → ℕ → List Asked
-dec secret ciphertext shared = room 64 secret ∷ packed 2560 0 ciphertext ∷ room 32 shared ∷ []
+dec secret ciphertext shared = room secret-key-bytes secret ∷ packed ciphertext-bytes 0 ciphertext ∷ room shared-key-bytes shared ∷ []
 
 abbrev pub dec-numbers : ℕ → List ℕ → ℕ → List Asked
-dec-numbers secret ciphertext shared = room 64 secret ∷ numbers 320 ciphertext ∷ room 32 shared ∷ []
+dec-numbers secret ciphertext shared = room secret-key-bytes secret ∷ numbers ciphertext-numbers ciphertext ∷ room shared-key-bytes shared ∷ []
 
 abbrev pub clear : ℕ → List Asked
-clear secret = room 64 secret ∷ []
+clear secret = room secret-key-bytes secret ∷ []

@@ -11,4 +11,5 @@ add-mod-p-requires c κs =
 
 pub add-spec : {M : Type 1} → statement M
 add-spec =
-    tie.close (tie.spec (λ c κs. search needs) (λ c. search needs) (λ c. search refused) (λ c. search needs) add-mod-p-requires (λ c. search gives-done))
+    tie.close (tie.spec (λ c κs. search needs) (λ c. search needs) (λ c. search refused) (λ c. search needs) add-mod-p-requires
+    (λ c. search gives-done))

@@ -18,4 +18,6 @@ returns-2 c =
     search gives-done
 
 pub mod-pow-spec : {M : Type 1} → statement M
-mod-pow-spec = tie.close (tie.spec (λ c κs. search needs) (λ c. search needs) (λ c. search refused) (λ c. search needs) (λ c κs. search needs) (λ c κs. search needs) (λ c κs. search needs) returns-2)
+mod-pow-spec =
+    tie.close (tie.spec (λ c κs. search needs) (λ c. search needs) (λ c. search refused) (λ c. search needs) (λ c κs. search needs)
+    (λ c κs. search needs) (λ c κs. search needs) returns-2)

@@ -17,4 +17,6 @@ returns-2 c =
     search gives-done
 
 pub mul-spec : {M : Type 1} → statement M
-mul-spec = tie.close (tie.spec (λ c κs. search needs) (λ c. search needs) (λ c. search refused) (λ c. search needs) (λ c κs. search needs) (λ c κs. search needs) returns-2)
+mul-spec =
+    tie.close (tie.spec (λ c κs. search needs) (λ c. search needs) (λ c. search refused) (λ c. search needs) (λ c κs. search needs)
+    (λ c κs. search needs) returns-2)

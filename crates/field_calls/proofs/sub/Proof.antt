@@ -11,4 +11,5 @@ sub-mod-p-requires c κs =
 
 pub sub-spec : {M : Type 1} → statement M
 sub-spec =
-    tie.close (tie.spec (λ c κs. search needs) (λ c. search needs) (λ c. search refused) (λ c. search needs) sub-mod-p-requires (λ c. search gives-done))
+    tie.close (tie.spec (λ c κs. search needs) (λ c. search needs) (λ c. search refused) (λ c. search needs) sub-mod-p-requires
+    (λ c. search gives-done))

@@ -11,4 +11,5 @@ sha3-256-requires c κs =
 
 pub sha3-256-spec : {M : Type 1} → statement M
 sha3-256-spec =
-    tie.close (tie.spec (λ c κs. search needs) (λ c. search needs) (λ c. search needs) (λ c. search handed-back) sha3-256-requires (λ c. search needs) (λ c. search fills-done))
+    tie.close (tie.spec (λ c κs. search needs) (λ c. search needs) (λ c. search needs) (λ c. search handed-back) sha3-256-requires (λ c. search needs)
+    (λ c. search fills-done))

@@ -6,4 +6,5 @@ use Rattle.hash_calls.proofs.shake256.Tie as tie
 
 pub shake256-spec : {M : Type 1} → statement M
 shake256-spec =
-    tie.close (tie.spec (λ c κs. search needs) (λ c. search needs) (λ c. search needs) (λ c. search handed-back) (λ c κs. search needs) (λ c. search needs) (λ c. search fills-done))
+    tie.close (tie.spec (λ c κs. search needs) (λ c. search needs) (λ c. search needs) (λ c. search handed-back) (λ c κs. search needs)
+    (λ c. search needs) (λ c. search fills-done))

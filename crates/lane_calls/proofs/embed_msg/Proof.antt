@@ -11,4 +11,5 @@ embed-msg-requires c κs =
 
 pub embed-msg-spec : {M : Type 1} → statement M
 embed-msg-spec =
-    tie.close (tie.spec (λ c κs. search needs) (λ c. search needs) (λ c. search needs) (λ c. search handed-back) embed-msg-requires (λ c. search needs) (λ c. search fills-done))
+    tie.close (tie.spec (λ c κs. search needs) (λ c. search needs) (λ c. search needs) (λ c. search handed-back) embed-msg-requires
+    (λ c. search needs) (λ c. search fills-done))

@@ -11,4 +11,5 @@ extract-msg-requires c κs =
 
 pub extract-msg-spec : {M : Type 1} → statement M
 extract-msg-spec =
-    tie.close (tie.spec (λ c κs. search needs) (λ c. search needs) (λ c. search needs) (λ c. search handed-back) extract-msg-requires (λ c. search needs) (λ c. search fills-done))
+    tie.close (tie.spec (λ c κs. search needs) (λ c. search needs) (λ c. search needs) (λ c. search handed-back) extract-msg-requires
+    (λ c. search needs) (λ c. search fills-done))

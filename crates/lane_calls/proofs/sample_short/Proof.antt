@@ -11,4 +11,5 @@ sample-short-requires c κs =
 
 pub sample-short-spec : {M : Type 1} → statement M
 sample-short-spec =
-    tie.close (tie.spec (λ c κs. search needs) (λ c. search needs) (λ c. search needs) (λ c. search handed-back) sample-short-requires (λ c. search needs) (λ c. search fills-done))
+    tie.close (tie.spec (λ c κs. search needs) (λ c. search needs) (λ c. search needs) (λ c. search handed-back) sample-short-requires
+    (λ c. search needs) (λ c. search fills-done))

@@ -11,4 +11,5 @@ sample-short-bfield-element-requires c κs =
 
 pub sample-short-bfield-element-spec : {M : Type 1} → statement M
 sample-short-bfield-element-spec =
-    tie.close (tie.spec (λ c κs. search needs) (λ c. search needs) (λ c. search refused) (λ c. search needs) sample-short-bfield-element-requires (λ c. search gives-done))
+    tie.close (tie.spec (λ c κs. search needs) (λ c. search needs) (λ c. search refused) (λ c. search needs) sample-short-bfield-element-requires
+    (λ c. search gives-done))

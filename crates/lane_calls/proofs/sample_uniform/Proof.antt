@@ -11,4 +11,5 @@ sample-uniform-requires c κs =
 
 pub sample-uniform-spec : {M : Type 1} → statement M
 sample-uniform-spec =
-    tie.close (tie.spec (λ c κs. search needs) (λ c. search needs) (λ c. search needs) (λ c. search handed-back) sample-uniform-requires (λ c. search needs) (λ c. search fills-done))
+    tie.close (tie.spec (λ c κs. search needs) (λ c. search needs) (λ c. search needs) (λ c. search handed-back) sample-uniform-requires
+    (λ c. search needs) (λ c. search fills-done))

@@ -22,7 +22,8 @@ loop-holds : tie.Need-loop-holds Inv-loop μ-loop
 loop-holds c = (omega arith, refl, length-words (c .before .args .s .now), sym (zero-add _))
 
 -- the number that was loaded is the one of the list
-loaded : (c : tie.After-load Inv-loop μ-loop) → let k = c .before .before in c .load .result ≡ getD (words (k .before .before .args .s .now)) (k .loop .i) 0
+loaded : (c : tie.After-load Inv-loop μ-loop)
+    → let k = c .before .before in c .load .result ≡ getD (words (k .before .before .args .s .now)) (k .loop .i) 0
 loaded c =
     let k = c .before .before in
     c .load .ensures ∙ sym (getD-words (k .before .before .args .s .now) (k .loop .i) (omega arith))
@@ -30,15 +31,17 @@ loaded c =
 returns : tie.Need-returns Inv-loop μ-loop
 returns c =
     let k = c .before .before .before in
-    omega (arith, lead-here (words (k .before .before .args .s .now)) (k .loop .i) (omega arith) (subst (λ (x : ℕ). P ≤ x) (loaded (c .before)) (c .if1 .taken)))
+    let bad = subst (λ (x : ℕ). P ≤ x) (loaded (c .before)) (c .if1 .taken) in
+    omega (arith, lead-here (words (k .before .before .args .s .now)) (k .loop .i) (omega arith) bad)
 
 loop-again : tie.Need-loop-again Inv-loop μ-loop
 loop-again c =
-    let k = c .before .before .before in (
+    let k = c .before .before .before in
+    let good = subst (λ (x : ℕ). x < P) (loaded (c .before)) (c .if1 .left) in (
       omega arith,
       refl,
       k .loop .inv .2,
-      lead-more (words (k .before .before .args .s .now)) (k .loop .i) (omega arith) (subst (λ (x : ℕ). x < P) (loaded (c .before)) (c .if1 .left)) (k .loop .inv .3),
+      lead-more (words (k .before .before .args .s .now)) (k .loop .i) (omega arith) good (k .loop .inv .3),
     )
 
 returns-2 : tie.Need-returns-2 Inv-loop μ-loop
@@ -48,5 +51,5 @@ returns-2 c =
 
 pub first-bad-packed-spec : {M : Type 1} → statement M
 first-bad-packed-spec =
-    tie.close (tie.spec Inv-loop μ-loop loop-holds (λ c. omega arith) (λ c κs. omega arith) returns (λ c. omega arith)
-    (λ c. omega arith) loop-again returns-2)
+    tie.close (tie.spec Inv-loop μ-loop loop-holds (λ c. omega arith) (λ c κs. omega arith) returns (λ c. omega arith) (λ c. omega arith) loop-again
+    returns-2)

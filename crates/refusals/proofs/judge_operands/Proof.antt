@@ -6,7 +6,16 @@ use Rattle.refusals.proofs.judge_operands.Tie as tie
 
 returns : tie.Need-returns
 unfolding judged
-returns c = rw (c .numbers2 .ensures, c .before .numbers .ensures, c .before .before .sized3 .ensures, c .before .before .before .sized2 .ensures, c .before .before .before .before .sized .ensures)
+returns c =
+    let lengths = c .before .before in
+    rw (
+      c .numbers2 .ensures,
+      c .before .numbers .ensures,
+      lengths .sized3 .ensures,
+      lengths .before .sized2 .ensures,
+      lengths .before .before .sized .ensures,
+    )
 
 pub judge-operands-spec : {M : Type 1} → statement M
-judge-operands-spec = tie.close (tie.spec (λ c κs. search needs) (λ c κs. search needs) (λ c κs. search needs) (λ c κs. search needs) (λ c κs. search needs) returns)
+judge-operands-spec =
+    tie.close (tie.spec (λ c κs. search needs) (λ c κs. search needs) (λ c κs. search needs) (λ c κs. search needs) (λ c κs. search needs) returns)

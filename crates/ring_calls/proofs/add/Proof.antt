@@ -11,4 +11,5 @@ add-requires c κs =
 
 pub add-spec : {M : Type 1} → statement M
 add-spec =
-    tie.close (tie.spec (λ c κs. search needs) (λ c. search needs) (λ c. search needs) (λ c. search handed-back) add-requires (λ c. search needs) (λ c. search fills-done))
+    tie.close (tie.spec (λ c κs. search needs) (λ c. search needs) (λ c. search needs) (λ c. search handed-back) add-requires (λ c. search needs)
+    (λ c. search fills-done))

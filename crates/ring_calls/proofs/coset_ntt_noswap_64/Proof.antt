@@ -11,4 +11,5 @@ coset-ntt-noswap-64-requires c κs =
 
 pub coset-ntt-noswap-64-spec : {M : Type 1} → statement M
 coset-ntt-noswap-64-spec =
-    tie.close (tie.spec (λ c κs. search needs) (λ c. search needs) (λ c. search needs) (λ c. search needs) (λ c. search handed-back) coset-ntt-noswap-64-requires (λ c. search needs) (λ c. search fills-done))
+    tie.close (tie.spec (λ c κs. search needs) (λ c. search needs) (λ c. search needs) (λ c. search needs) (λ c. search handed-back)
+    coset-ntt-noswap-64-requires (λ c. search needs) (λ c. search fills-done))

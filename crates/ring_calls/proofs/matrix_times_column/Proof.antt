@@ -11,4 +11,5 @@ matrix-times-column-requires c κs =
 
 pub matrix-times-column-spec : {M : Type 1} → statement M
 matrix-times-column-spec =
-    tie.close (tie.spec (λ c κs. search needs) (λ c. search needs) (λ c. search needs) (λ c. search handed-back) matrix-times-column-requires (λ c. search needs) (λ c. search fills-done))
+    tie.close (tie.spec (λ c κs. search needs) (λ c. search needs) (λ c. search needs) (λ c. search handed-back) matrix-times-column-requires
+    (λ c. search needs) (λ c. search fills-done))

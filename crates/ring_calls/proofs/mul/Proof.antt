@@ -11,4 +11,5 @@ multiply-requires c κs =
 
 pub mul-spec : {M : Type 1} → statement M
 mul-spec =
-    tie.close (tie.spec (λ c κs. search needs) (λ c. search needs) (λ c. search needs) (λ c. search handed-back) multiply-requires (λ c. search needs) (λ c. search fills-done))
+    tie.close (tie.spec (λ c κs. search needs) (λ c. search needs) (λ c. search needs) (λ c. search handed-back) multiply-requires (λ c. search needs)
+    (λ c. search fills-done))

@@ -11,4 +11,5 @@ row-times-column-requires c κs =
 
 pub row-times-column-spec : {M : Type 1} → statement M
 row-times-column-spec =
-    tie.close (tie.spec (λ c κs. search needs) (λ c. search needs) (λ c. search needs) (λ c. search handed-back) row-times-column-requires (λ c. search needs) (λ c. search fills-done))
+    tie.close (tie.spec (λ c κs. search needs) (λ c. search needs) (λ c. search needs) (λ c. search handed-back) row-times-column-requires
+    (λ c. search needs) (λ c. search fills-done))

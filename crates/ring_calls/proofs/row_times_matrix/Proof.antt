@@ -11,4 +11,5 @@ row-times-matrix-requires c κs =
 
 pub row-times-matrix-spec : {M : Type 1} → statement M
 row-times-matrix-spec =
-    tie.close (tie.spec (λ c κs. search needs) (λ c. search needs) (λ c. search needs) (λ c. search handed-back) row-times-matrix-requires (λ c. search needs) (λ c. search fills-done))
+    tie.close (tie.spec (λ c κs. search needs) (λ c. search needs) (λ c. search needs) (λ c. search handed-back) row-times-matrix-requires
+    (λ c. search needs) (λ c. search fills-done))

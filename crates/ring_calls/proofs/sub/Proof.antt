@@ -11,4 +11,5 @@ sub-requires c κs =
 
 pub sub-spec : {M : Type 1} → statement M
 sub-spec =
-    tie.close (tie.spec (λ c κs. search needs) (λ c. search needs) (λ c. search needs) (λ c. search handed-back) sub-requires (λ c. search needs) (λ c. search fills-done))
+    tie.close (tie.spec (λ c κs. search needs) (λ c. search needs) (λ c. search needs) (λ c. search handed-back) sub-requires (λ c. search needs)
+    (λ c. search fills-done))

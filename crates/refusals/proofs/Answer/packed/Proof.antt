@@ -22,5 +22,4 @@ unfolding fits coefficients
 returns-3 c = unseen _ _ _ _ (ne-eqb _ _ (c .if1 .left))
 
 pub packed-spec : {M : Type 1} → statement M
-packed-spec =
-    tie.close (tie.spec (λ c. search needs) (λ c. search needs) (λ c κs. search needs) (λ c κs. search needs) returns returns-2 returns-3)
+packed-spec = tie.close (tie.spec (λ c. search needs) (λ c. search needs) (λ c κs. search needs) (λ c κs. search needs) returns returns-2 returns-3)
