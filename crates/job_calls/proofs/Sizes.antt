@@ -7,6 +7,7 @@ use native.Mathlib.Omega.{arith}
 use lib.Dec.{lit<}
 use lib.ListN.{length, length-append}
 use Rattle.codec.specs.Layout.{words, bytes}
+use Rattle.codec.specs.Sizes.{secret-key-bytes, public-key-bytes, ciphertext-bytes, ciphertext-numbers, shared-key-bytes}
 use Rattle.codec.proofs.Layouts.{length-bytes}
 use Rattle.laws.specs.Choices.{pick}
 use Rattle.laws.specs.Lists.{part}
@@ -14,12 +15,12 @@ use Rattle.refusals.specs.Judgement.{Told, No, sign, gives, refuses}
 use Rattle.hash.specs.Fips202.{sha3-256}
 use Rattle.hash.proofs.Outputs.{length-sha3-256}
 use Rattle.lanes.specs.Samplers.{ones}
-use Rattle.packets.specs.Packets.{key, differs, same, sealing, extracted, payload, secret-key, public-key, PublicKey, keygen, enc, dec}
+use Rattle.packets.specs.Packets.{key, differs, key-or, same, sealing, extracted, payload, secret-key, public-key, PublicKey, keygen, enc, dec}
 use Rattle.packets.specs.Layout.{public-bytes, public-of}
-use Rattle.packets.proofs.Canonical.{part-below, public-canonical}
+use Rattle.packets.proofs.Sizes.{part-below, public-canonical}
 use Rattle.packets.proofs.Delivery.{secret-key-is-bytes, ciphertext-canonical}
-use Rattle.kem_calls.specs.Opened.{opened-key}
-use Rattle.job_calls.specs.Jobs.{ten, written, is-job, keygen-answer, enc-answer, dec-answer, job-answer}
+use Rattle.job_calls.specs.Jobs.{ten, written, keygen-job-bytes, enc-job-bytes, dec-job-bytes, longest-answer}
+use Rattle.job_calls.specs.Jobs.{is-job, keygen-answer, enc-answer, dec-answer, job-answer}
 
 ten-size : (r : No) → length (ten r) ≡ 10
 unfolding ten
@@ -31,7 +32,7 @@ unfolding written
 written-size (gives xs) out n h e = omega arith
 written-size (refuses r) out n h e = omega (arith, ten-size r)
 
-keys-size : (r : List ℕ) → length (keygen ones r .secret ++ public-bytes (keygen ones r .public)) ≡ 2144
+keys-size : (r : List ℕ) → length (keygen ones r .secret ++ public-bytes (keygen ones r .public)) ≡ secret-key-bytes + public-key-bytes
 unfolding keygen public-key public-bytes
 keys-size r =
     let sk = secret-key r in
@@ -39,41 +40,43 @@ keys-size r =
     let g : length (bytes (public-key ones sk .ga)) ≡ 2048 = length-bytes _ ∙ ap (λ (n : ℕ). 8 * n) (public-canonical ones sk .size) in
     length-append sk _ ∙ omega (arith, secret-key-is-bytes r .size, length-append (part 32 32 sk) (bytes (public-key ones sk .ga)), s, g)
 
-packet-size : (pk : PublicKey) (r : List ℕ) → length (enc ones pk r .shared ++ bytes (enc ones pk r .ciphertext)) ≡ 2592
+packet-size : (pk : PublicKey) (r : List ℕ)
+    → length (enc ones pk r .shared ++ bytes (enc ones pk r .ciphertext)) ≡ shared-key-bytes + ciphertext-bytes
 unfolding enc
 packet-size pk r =
-    let c : length (bytes (enc ones pk r .ciphertext)) ≡ 2560 = length-bytes _ ∙ ap (λ (n : ℕ). 8 * n) (ciphertext-canonical ones pk r .size) in
+    let numbers = ciphertext-canonical ones pk r .size in
+    let c : length (bytes (enc ones pk r .ciphertext)) ≡ ciphertext-bytes = length-bytes _ ∙ ap (λ (n : ℕ). 8 * n) numbers in
     length-append (enc ones pk r .shared) _ ∙ omega (arith, length-sha3-256 (payload r), c)
 
-key-size : (b : Bool) (m : List ℕ) → length (opened-key (pick b (key (sha3-256 m)) differs)) ≤ 32
-unfolding opened-key
+key-size : (b : Bool) (m : List ℕ) → length (key-or (pick b (key (sha3-256 m)) differs) []) ≤ shared-key-bytes
+unfolding key-or
 key-size true m = omega (arith, length-sha3-256 m)
 key-size false m = omega arith
 
-opened-size : (sk ct : List ℕ) → length (opened-key (dec ones sk ct)) ≤ 32
+opened-size : (sk ct : List ℕ) → length (key-or (dec ones sk ct) []) ≤ shared-key-bytes
 unfolding dec
-opened-size sk ct = key-size (same 320 (sealing ones (public-key ones sk) (extracted ones sk ct)) ct) (extracted ones sk ct)
+opened-size sk ct = key-size (same ciphertext-numbers (sealing ones (public-key ones sk) (extracted ones sk ct)) ct) (extracted ones sk ct)
 
-keygen-size : (r : List ℕ) → length (keygen-answer r) ≤ 2593
+keygen-size : (r : List ℕ) → length (keygen-answer r) ≤ longest-answer
 unfolding keygen-answer
-keygen-size r = written-size _ _ 2592 (omega arith) (omega (arith, keys-size r))
+keygen-size r = written-size _ _ (shared-key-bytes + ciphertext-bytes) (omega arith) (omega (arith, keys-size r))
 
-enc-size : (pk r : List ℕ) → length (enc-answer pk r) ≤ 2593
+enc-size : (pk r : List ℕ) → length (enc-answer pk r) ≤ longest-answer
 unfolding enc-answer
-enc-size pk r = written-size _ _ 2592 (omega arith) (omega (arith, packet-size (public-of pk) r))
+enc-size pk r = written-size _ _ (shared-key-bytes + ciphertext-bytes) (omega arith) (omega (arith, packet-size (public-of pk) r))
 
-dec-size : (sk ct : List ℕ) → length (dec-answer sk ct) ≤ 2593
+dec-size : (sk ct : List ℕ) → length (dec-answer sk ct) ≤ longest-answer
 unfolding dec-answer
-dec-size sk ct = written-size _ _ 2592 (omega arith) (omega (arith, opened-size sk (words ct)))
+dec-size sk ct = written-size _ _ (shared-key-bytes + ciphertext-bytes) (omega arith) (omega (arith, opened-size sk (words ct)))
 
 pick-size : (b : Bool) (s t : List ℕ) (n : ℕ) → length s ≤ n → length t ≤ n → length (pick b s t) ≤ n
 pick-size true s t n h k = h
 pick-size false s t n h k = k
 
 -- no answer has more than 2,593 bytes
-pub answer-size : (s : List ℕ) → length (job-answer s) ≤ 2593
+pub answer-size : (s : List ℕ) → length (job-answer s) ≤ longest-answer
 unfolding job-answer
 answer-size s =
-    pick-size (is-job 1 33 s) _ _ 2593 (keygen-size _)
-    (pick-size (is-job 2 2113 s) _ _ 2593 (enc-size _ _)
-    (pick-size (is-job 3 2625 s) _ _ 2593 (dec-size _ _) (omega (arith, ten-size (sign 5 0 0)))))
+    pick-size (is-job 1 keygen-job-bytes s) _ _ longest-answer (keygen-size _)
+    (pick-size (is-job 2 enc-job-bytes s) _ _ longest-answer (enc-size _ _)
+    (pick-size (is-job 3 dec-job-bytes s) _ _ longest-answer (dec-size _ _) (omega (arith, ten-size (sign 5 0 0)))))

@@ -1,7 +1,6 @@
 -- `is_job` tests the length and then the first byte.
 use borrow.Author.Needs.{needs}
 use borrow.Author.Tests.{eq-eqb, ne-eqb}
-use Rattle.laws.specs.Choices.{pick}
 use Rattle.job_calls.specs.Jobs.{is-job}
 use Rattle.job_calls.proofs.is_job.Statement.{statement}
 use Rattle.job_calls.proofs.is_job.Tie as tie

@@ -1,16 +1,15 @@
 -- `keygen_job` asks the public call and tells its answer.
 use borrow.Author.Needs.{needs}
-use Rattle.job_calls.proofs.Fronts.{told-two, writes-as}
+use Rattle.job_calls.proofs.Fronts.{writes-two}
 use Rattle.job_calls.specs.Jobs.{keygen-answer}
 use Rattle.job_calls.proofs.keygen_job.Statement.{statement}
 use Rattle.job_calls.proofs.keygen_job.Tie as tie
 
 returns : tie.Need-returns
 unfolding keygen-answer
-returns c =
-    let k = c .before .before .before .before .before .before .before .before .keygen .ensures in
-    writes-as _ _ _ _ _ (told-two _ _ _ _ _ _ _ k) (c .before .before .tell .ensures)
+returns c = search writes-two
 
 pub keygen-job-spec : {M : Type 1} → statement M
-keygen-job-spec = tie.close (tie.spec (λ c. search needs) (λ c. search needs) (λ c κs. search needs) (λ c. search needs)
-    (λ c. search needs) (λ c κs. search needs) (λ c. search needs) returns)
+keygen-job-spec =
+    tie.close (tie.spec (λ c. search needs) (λ c. search needs) (λ c κs. search needs) (λ c. search needs) (λ c. search needs) (λ c κs. search needs)
+    (λ c. search needs) returns)

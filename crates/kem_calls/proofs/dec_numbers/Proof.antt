@@ -1,7 +1,7 @@
 -- `dec_numbers` answers as it is judged, and then as opening does.
 use borrow.Author.Needs.{needs}
 use Rattle.refusals.proofs.Calls.{as-asked, handed-back}
-use Rattle.kem_calls.proofs.Shapes.{opens-done, opens-not}
+use Rattle.kem_calls.proofs.Verdicts.{opens-done, opens-not}
 use Rattle.kem_calls.proofs.dec_numbers.Statement.{statement}
 use Rattle.kem_calls.proofs.dec_numbers.Tie as tie
 
@@ -12,5 +12,5 @@ dec-requires c κs =
 
 pub dec-numbers-spec : {M : Type 1} → statement M
 dec-numbers-spec =
-    tie.close (tie.spec (λ c κs. search needs) (λ c. search needs) (λ c. search needs) (λ c. search handed-back) dec-requires (λ c. search needs) (λ c. search opens-done)
-    (λ c. search needs) (λ c. search opens-not))
+    tie.close (tie.spec (λ c κs. search needs) (λ c. search needs) (λ c. search needs) (λ c. search handed-back) dec-requires (λ c. search needs)
+    (λ c. search opens-done) (λ c. search needs) (λ c. search opens-not))

@@ -1,7 +1,7 @@
 -- `enc_numbers` answers as it is judged, and fills shared key and ciphertext where nothing is wrong.
 use borrow.Author.Needs.{needs}
 use Rattle.refusals.proofs.Calls.{as-asked, handed-back, fills-two-done}
-use Rattle.kem_calls.proofs.Shapes.{ga-good}
+use Rattle.kem_calls.proofs.Verdicts.{ga-good}
 use Rattle.kem_calls.proofs.enc_numbers.Statement.{statement}
 use Rattle.kem_calls.proofs.enc_numbers.Tie as tie
 
@@ -12,5 +12,5 @@ enc-requires c κs =
 
 pub enc-numbers-spec : {M : Type 1} → statement M
 enc-numbers-spec =
-    tie.close (tie.spec (λ c κs. search needs) (λ c. search needs) (λ c. search needs) (λ c. search handed-back) enc-requires (λ c. search needs) (λ c. search needs)
-    (λ c. search fills-two-done))
+    tie.close (tie.spec (λ c κs. search needs) (λ c. search needs) (λ c. search needs) (λ c. search handed-back) enc-requires (λ c. search needs)
+    (λ c. search needs) (λ c. search fills-two-done))

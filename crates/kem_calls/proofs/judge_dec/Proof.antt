@@ -9,5 +9,4 @@ unfolding judged
 returns c = rw (c .packed .ensures, c .before .sized3 .ensures, c .before .before .sized2 .ensures, c .before .before .before .sized .ensures)
 
 pub judge-dec-spec : {M : Type 1} → statement M
-judge-dec-spec =
-    tie.close (tie.spec (λ c κs. search needs) (λ c κs. search needs) (λ c κs. search needs) (λ c κs. search needs) returns)
+judge-dec-spec = tie.close (tie.spec (λ c κs. search needs) (λ c κs. search needs) (λ c κs. search needs) (λ c κs. search needs) returns)

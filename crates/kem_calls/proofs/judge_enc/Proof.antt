@@ -6,7 +6,15 @@ use Rattle.kem_calls.proofs.judge_enc.Tie as tie
 
 returns : tie.Need-returns
 unfolding judged
-returns c = rw (c .packed .ensures, c .before .sized4 .ensures, c .before .before .sized3 .ensures, c .before .before .before .sized2 .ensures, c .before .before .before .before .sized .ensures)
+returns c =
+    let lengths = c .before .before in
+    rw (
+      c .packed .ensures,
+      c .before .sized4 .ensures,
+      lengths .sized3 .ensures,
+      lengths .before .sized2 .ensures,
+      lengths .before .before .sized .ensures,
+    )
 
 pub judge-enc-spec : {M : Type 1} → statement M
 judge-enc-spec =

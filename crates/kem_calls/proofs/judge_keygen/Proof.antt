@@ -9,5 +9,4 @@ unfolding judged
 returns c = rw (c .sized3 .ensures, c .before .sized2 .ensures, c .before .before .sized .ensures)
 
 pub judge-keygen-spec : {M : Type 1} → statement M
-judge-keygen-spec =
-    tie.close (tie.spec (λ c κs. search needs) (λ c κs. search needs) (λ c κs. search needs) returns)
+judge-keygen-spec = tie.close (tie.spec (λ c κs. search needs) (λ c κs. search needs) (λ c κs. search needs) returns)

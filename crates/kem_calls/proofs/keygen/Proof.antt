@@ -11,5 +11,5 @@ keygen-requires c κs =
 
 pub keygen-spec : {M : Type 1} → statement M
 keygen-spec =
-    tie.close (tie.spec (λ c κs. search needs) (λ c. search needs) (λ c. search needs) (λ c. search handed-back) keygen-requires (λ c. search needs) (λ c. search needs)
-    (λ c. search fills-two-done))
+    tie.close (tie.spec (λ c κs. search needs) (λ c. search needs) (λ c. search needs) (λ c. search handed-back) keygen-requires (λ c. search needs)
+    (λ c. search needs) (λ c. search fills-two-done))
