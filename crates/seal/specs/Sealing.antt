@@ -1,7 +1,7 @@
 -- A sealing from its transformed vectors, and its opening: g is the matrix, a and c are the key's vectors, b and d the payload's.
 use mathlib.Core.Path.{_≡_}
 use mathlib.Core.List.{List, _++_}
-use Prim.Native.Nat.{ℕ}
+use Prim.Native.Nat.{ℕ, _*_, _-_}
 use lib.ListN.{length, take}
 use Rattle.laws.specs.Lists.{part}
 use Rattle.field.specs.Field.{Coefficients}
@@ -38,12 +38,12 @@ sealed-for g a c b d payload = sealed g (combined g a c) b d payload
 abbrev pub unmasked : List ℕ → List ℕ → List ℕ
 unmasked a ct = untransform (minus 64 (part vector-numbers 64 ct) (matrix 1 4 1 (take vector-numbers ct) a))
 
--- ---- G's bytes, drawn in two parts: whole blocks up to the cut, and the others
+-- ---- G's bytes, drawn in two parts: 31 whole blocks up to the cut, and the others
 abbrev pub cut : ℕ
-cut = 4216
+cut = 136 * 31
 
 abbrev pub others : ℕ
-others = 5000
+others = matrix-bytes - cut
 
 -- the bytes up to the cut, and the others drawn from what is left of the stream
 abbrev pub continued : List ℕ → List ℕ → List ℕ
