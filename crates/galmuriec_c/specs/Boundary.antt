@@ -1,11 +1,13 @@
 -- What a caller in another language gets of what a call tells: a returned number, the refusal's record as three numbers, and the lent
--- buffers. Document 01, "When a call says no". CallC, FillsC, FillsTwoC and GivesC are the promises of crate refusals as a caller in C sees them.
+-- buffers. Document 01, "When a call says no". CallC, FillsC, FillsTwoC, GivesC and UnsealsC are the calls' promises as a caller in C sees them.
 use mathlib.Core.Path.{_≡_}
 use mathlib.Core.List.{List, [], _∷_}
 use Prim.Native.Nat.{ℕ}
 use Rattle.refusals.specs.Arguments.{Asked}
 use Rattle.refusals.specs.Judgement.{Told, gives, refuses, fine}
 use Rattle.refusals.specs.Answers.{Lent, into, left, tells}
+use Rattle.packets.specs.Packets.{Opened, key-or}
+use Rattle.kem_calls.specs.Verdict.{verdict}
 
 -- the refusal's number, 0 where there is none
 unfoldable pub status : Told → ℕ
@@ -51,3 +53,6 @@ FillsTwoC args r refusal old new result old′ new′ result′ =
 
 abbrev pub GivesC : List Asked → ℕ → List ℕ → ℕ → ℕ → ℕ → Type 0
 GivesC args r refusal old new x = Delivers (tells args (gives (x ∷ []))) r refusal old new
+
+abbrev pub UnsealsC : List Asked → Opened → ℕ → List ℕ → List ℕ → List ℕ → Type 0
+UnsealsC args o r refusal old new = CallC args (verdict o) r refusal (into old (key-or o old) ∷ []) (new ∷ [])

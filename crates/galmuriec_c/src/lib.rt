@@ -6,11 +6,11 @@ ghost use Prim.Native.Nat.{_+_, _*_, _-_, _%_, _^_};
 ghost use lib.ListN.{length};
 ghost use Rattle.laws.specs.Lists.{zeros};
 ghost use Rattle.field.specs.Field.{P};
-ghost use Rattle.refusals.specs.Judgement.{gives, fine};
-ghost use Rattle.refusals.specs.Answers.{said, told, into, tells};
+ghost use Rattle.refusals.specs.Answers.{said, told, tells};
 ghost use Rattle.refusals.specs.Asks as asks;
 ghost use Rattle.refusals.specs.Inverses.{inverse-told};
 ghost use Rattle.codec.specs.Layout.{words, bytes};
+ghost use Rattle.codec.specs.Sizes.{secret-key-bytes};
 ghost use Rattle.ring.specs.Transform.{transform, untransform};
 ghost use Rattle.ring.specs.Elements.{plus, minus, product};
 ghost use Rattle.ring.specs.Matrices.{matrix};
@@ -19,9 +19,8 @@ ghost use Rattle.lanes.specs.Messages.{embed, extract};
 ghost use Rattle.hash.specs.Fips202.{shake256, sha3-256};
 ghost use Rattle.packets.specs.Packets as packets;
 ghost use Rattle.packets.specs.Layout.{public-bytes, public-of};
-ghost use Rattle.kem_calls.specs.Opened.{opened-told, opened-key};
 ghost use Rattle.job_calls.specs.Jobs.{job-answer, Writes};
-ghost use Rattle.galmuriec_c.specs.Boundary.{Reports, Delivers, CallC, FillsC, FillsTwoC, GivesC};
+ghost use Rattle.galmuriec_c.specs.Boundary.{Reports, Delivers, FillsC, FillsTwoC, GivesC, UnsealsC};
 use refusals::Answer;
 use refusals::Given;
 
@@ -391,10 +390,9 @@ pub extern "C" fn galmuriec_dec(
     shared: &mut [u8],
     refusal: &mut [u64; 3],
 ) -> u64
-    ensures { λ r. ⌜ CallC (asks.dec (length (now (secret .entry))) (now (ciphertext .entry)) (length (now (shared .entry))))
-        (opened-told (packets.dec ones (now (secret .entry)) (words (now (ciphertext .entry))))) r (now (refusal .exit))
-        (into (now (shared .entry)) (opened-key (packets.dec ones (now (secret .entry)) (words (now (ciphertext .entry))))) ∷ [])
-        (now (shared .exit) ∷ []) ⌝ }
+    ensures { λ r. ⌜ UnsealsC (asks.dec (length (now (secret .entry))) (now (ciphertext .entry)) (length (now (shared .entry))))
+        (packets.dec ones (now (secret .entry)) (words (now (ciphertext .entry)))) r
+        (now (refusal .exit)) (now (shared .entry)) (now (shared .exit)) ⌝ }
 {
     report(galmuriec::kem::dec(secret, ciphertext, shared), refusal)
 }
@@ -407,10 +405,9 @@ pub extern "C" fn galmuriec_dec_numbers(
     shared: &mut [u8],
     refusal: &mut [u64; 3],
 ) -> u64
-    ensures { λ r. ⌜ CallC (asks.dec-numbers (length (now (secret .entry))) (now (ciphertext .entry)) (length (now (shared .entry))))
-        (opened-told (packets.dec ones (now (secret .entry)) (now (ciphertext .entry)))) r (now (refusal .exit))
-        (into (now (shared .entry)) (opened-key (packets.dec ones (now (secret .entry)) (now (ciphertext .entry)))) ∷ [])
-        (now (shared .exit) ∷ []) ⌝ }
+    ensures { λ r. ⌜ UnsealsC (asks.dec-numbers (length (now (secret .entry))) (now (ciphertext .entry)) (length (now (shared .entry))))
+        (packets.dec ones (now (secret .entry)) (now (ciphertext .entry))) r
+        (now (refusal .exit)) (now (shared .entry)) (now (shared .exit)) ⌝ }
 {
     report(
         galmuriec::kem::dec_numbers(secret, ciphertext, shared),
@@ -421,7 +418,7 @@ pub extern "C" fn galmuriec_dec_numbers(
 #[no_mangle]
 pub extern "C" fn galmuriec_clear(secret: &mut [u8], refusal: &mut [u64; 3]) -> u64
     ensures { λ r. ⌜ FillsC (asks.clear (length (now (secret .entry)))) r (now (refusal .exit)) (now (secret .entry)) (now (secret .exit))
-        (zeros 64) ⌝ }
+        (zeros secret-key-bytes) ⌝ }
 {
     report(galmuriec::kem::clear(secret), refusal)
 }

@@ -13,5 +13,5 @@ unfoldable pub verdict : Opened → Told
 verdict o = pick (opens o) fine (refuses (sign 3 0 0))
 
 -- a call that opens, and fills a buffer with the key
-abbrev pub Opens : List Asked → Opened → Answer → List ℕ → List ℕ → Type 0
-Opens args o r old new = Call args (verdict o) (said r) (into old (key-or o old) ∷ []) (new ∷ [])
+abbrev pub Unseals : List Asked → Opened → Answer → List ℕ → List ℕ → Type 0
+Unseals args o r old new = Call args (verdict o) (said r) (into old (key-or o old) ∷ []) (new ∷ [])

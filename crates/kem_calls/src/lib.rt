@@ -15,7 +15,7 @@ ghost use Rattle.lanes.specs.Samplers.{ones};
 ghost use Rattle.packets.specs.Packets.{opens, key-or};
 ghost use Rattle.packets.specs.Packets as packets;
 ghost use Rattle.packets.specs.Layout.{public-bytes, public-of};
-ghost use Rattle.kem_calls.specs.Verdict.{Opens};
+ghost use Rattle.kem_calls.specs.Verdict.{Unseals};
 use codec::CIPHERTEXT_BYTES;
 use codec::CIPHERTEXT_NUMBERS;
 use codec::PUBLIC_KEY_BYTES;
@@ -113,7 +113,7 @@ pub fn enc_numbers(
 
 // With the ciphertext as numbers.
 pub fn dec_numbers(secret: &[u8], ciphertext: &[u64], shared: &mut [u8]) -> Answer
-    ensures { λ r. ⌜ Opens (asks.dec-numbers (length (now (secret .entry))) (now (ciphertext .entry)) (length (now (shared .entry))))
+    ensures { λ r. ⌜ Unseals (asks.dec-numbers (length (now (secret .entry))) (now (ciphertext .entry)) (length (now (shared .entry))))
         (packets.dec ones (now (secret .entry)) (now (ciphertext .entry))) r (now (shared .entry)) (now (shared .exit)) ⌝ }
 {
     let v = judge_dec_numbers(secret.len(), ciphertext, shared.len());
@@ -175,7 +175,7 @@ fn dec_bytes(secret: &[u8], ciphertext: &[u8], shared: &mut [u8]) -> bool
 }
 
 pub fn dec(secret: &[u8], ciphertext: &[u8], shared: &mut [u8]) -> Answer
-    ensures { λ r. ⌜ Opens (asks.dec (length (now (secret .entry))) (now (ciphertext .entry)) (length (now (shared .entry))))
+    ensures { λ r. ⌜ Unseals (asks.dec (length (now (secret .entry))) (now (ciphertext .entry)) (length (now (shared .entry))))
         (packets.dec ones (now (secret .entry)) (words (now (ciphertext .entry)))) r (now (shared .entry)) (now (shared .exit)) ⌝ }
 {
     let v = judge_dec(secret.len(), ciphertext, shared.len());

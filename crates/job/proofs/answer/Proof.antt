@@ -1,4 +1,4 @@
--- An answer fits 2,593 bytes. Assumes nothing.
+-- An answer fits the longest.
 use borrow.Author.Needs.{needs}
 use native.Mathlib.Omega.{arith}
 use Rattle.job_calls.proofs.Sizes.{answer-size}
@@ -11,4 +11,6 @@ part-write-all-end c =
     omega (arith, j .job .ensures .count, answer-size (j .before .before .before .args .input .now))
 
 pub answer-spec : {M : Type 1} → statement M
-answer-spec = tie.close (tie.spec (λ c. search needs) (λ c κs. search needs) (λ c. search needs) (λ c. search needs) part-write-all-end (λ c κs. search needs) (λ c. search needs))
+answer-spec =
+    tie.close (tie.spec (λ c. search needs) (λ c κs. search needs) (λ c. search needs) (λ c. search needs) part-write-all-end
+    (λ c κs. search needs) (λ c. search needs))
