@@ -1,0 +1,2 @@
+-- Examples of the definitions, checked with the program that is held to outside answers.
+mod Examples
