@@ -17,7 +17,7 @@ use Rattle.hash.proofs.Outputs.{length-sha3-256}
 use Rattle.lanes.specs.Samplers.{ones}
 use Rattle.packets.specs.Packets.{key, differs, key-or, same, sealing, extracted, payload, secret-key, public-key, PublicKey, keygen, enc, dec}
 use Rattle.packets.specs.Layout.{public-bytes, public-of}
-use Rattle.packets.proofs.Sizes.{part-below, public-canonical}
+use Rattle.packets.proofs.Canonical.{part-below, public-canonical}
 use Rattle.packets.proofs.Delivery.{secret-key-is-bytes, ciphertext-canonical}
 use Rattle.job_calls.specs.Jobs.{ten, written, keygen-job-bytes, enc-job-bytes, dec-job-bytes, longest-answer}
 use Rattle.job_calls.specs.Jobs.{is-job, keygen-answer, enc-answer, dec-answer, job-answer}

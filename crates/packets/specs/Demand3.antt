@@ -21,7 +21,7 @@ module _ (count : ℕ → ℕ) where
   abbrev pub Read : List ℕ → List ℕ → Type 0
   Read sk m = extract (plus 64 (embed m) (noise-of sk m)) ≡ m
 
-  -- each coefficient of b·c - d·a is congruent modulo p to e0 + 2^16 e1 + 2^32 e2 + 2^48 e3 with no e beyond the limit
+  -- each coefficient of b·c - d·a is congruent modulo p to e0 + 2^16 e1 + 2^32 e2 + 2^48 e3 with every e from -16381 to 16381
   abbrev pub Quiet : List ℕ → List ℕ → Type 0
   Quiet sk m = (k : ℕ) → k < 64 → Lanes limit (getD (noise-of sk m) k 0)
 
