@@ -1,4 +1,5 @@
-/* Puts each question of standard input to the library and writes its answer; tests/calls/README.md describes both. */
+/* Puts each question of standard input to the library and writes its answer; tests/calls/README.md describes both. With the argument `bare`, outputs
+ * are lent as malloc gives them, and a slice of no elements as NULL; nobody knows then what an output held, so no answer ends with `kept`. */
 #include "galmuriec.h"
 #include <stdio.h>
 #include <stdlib.h>
@@ -7,6 +8,8 @@
 /* What is behind each lent slice, and no call may touch: in elements. */
 enum { MARGIN = 8 };
 
+static int bare;
+
 /* ---- a question: a word, parts of a length and a seed, two places */
 struct part {
     size_t count;
@@ -14,6 +17,7 @@ struct part {
     size_t width;  /* bytes an element: 8 for numbers, 1 for bytes, 0 where nothing is lent */
     void *at;      /* what is lent, */
     void *before;  /* and a copy from before the call; both with the margin */
+    void *lent;    /* the pointer that the call gets */
 };
 
 struct place {
@@ -26,7 +30,7 @@ struct question {
     char word[8];
     struct part part[4];
     struct place place[2];
-    uint64_t result;
+    uint64_t *result;
 };
 
 static int read_question(struct question *q)
@@ -155,6 +159,12 @@ static int is_output(char kind)
     return kind == 'B' || kind == 'N' || kind == 'C';
 }
 
+/* In place, what is lent is an input too. */
+static int is_filled(char kind)
+{
+    return kind == 'B' || kind == 'N';
+}
+
 static size_t width(char kind)
 {
     return strchr("v.", kind) ? 0 : strchr("cyNC", kind) ? 8 : 1;
@@ -185,6 +195,14 @@ static void fill(const struct question *q, unsigned k, char kind)
     memcpy(p->at, whole, size < most ? size : most);
 }
 
+static void *room(size_t size)
+{
+    void *at = malloc(size);
+    if (at == NULL)
+        stop("no memory");
+    return at;
+}
+
 static void lend(struct question *q, const char *kinds)
 {
     for (unsigned k = 0; kinds[k]; k++) {
@@ -193,13 +211,13 @@ static void lend(struct question *q, const char *kinds)
         if (p->width == 0)
             continue;
         size_t size = (p->count + MARGIN) * p->width;
-        p->at = malloc(size);
-        p->before = malloc(size);
-        if (p->at == NULL || p->before == NULL)
-            stop("no memory");
-        memset(p->at, 0xa5, size);
-        fill(q, k, kinds[k]);
+        p->at = room(size);
+        p->before = room(size);
+        memset((char *)p->at + p->count * p->width, 0xa5, MARGIN * p->width);
+        if (!bare || !is_filled(kinds[k]))
+            fill(q, k, kinds[k]);
         memcpy(p->before, p->at, size);
+        p->lent = bare && p->count == 0 ? NULL : p->at;
     }
 }
 
@@ -211,17 +229,17 @@ static int same(const struct part *p, size_t from)
 }
 
 /* ---- the calls: word, kinds of the arguments ('=' in front: it gives a number), and how it is asked */
-#define S(k) q->part[k].at, q->part[k].count
+#define S(k) q->part[k].lent, q->part[k].count
 #define V(k) q->part[k].seed
 #define CALLS(ROW)                                                                              \
-    ROW(fnew, "=v", (memset(r, 0, sizeof *r), q->result = galmuriec_field_new(V(0)), 0))        \
-    ROW(fval, "=v", galmuriec_field_value(V(0), &q->result, r))                                 \
-    ROW(fadd, "=vv", galmuriec_field_add(V(0), V(1), &q->result, r))                            \
-    ROW(fsub, "=vv", galmuriec_field_sub(V(0), V(1), &q->result, r))                            \
-    ROW(fmul, "=vv", galmuriec_field_mul(V(0), V(1), &q->result, r))                            \
-    ROW(fneg, "=v", galmuriec_field_neg(V(0), &q->result, r))                                   \
-    ROW(finv, "=v", galmuriec_field_inverse(V(0), &q->result, r))                               \
-    ROW(fpow, "=vv", galmuriec_field_mod_pow(V(0), V(1), &q->result, r))                        \
+    ROW(fnew, "=v", (memset(r, 0, sizeof *r), *q->result = galmuriec_field_new(V(0)), 0))       \
+    ROW(fval, "=v", galmuriec_field_value(V(0), q->result, r))                                  \
+    ROW(fadd, "=vv", galmuriec_field_add(V(0), V(1), q->result, r))                             \
+    ROW(fsub, "=vv", galmuriec_field_sub(V(0), V(1), q->result, r))                             \
+    ROW(fmul, "=vv", galmuriec_field_mul(V(0), V(1), q->result, r))                             \
+    ROW(fneg, "=v", galmuriec_field_neg(V(0), q->result, r))                                    \
+    ROW(finv, "=v", galmuriec_field_inverse(V(0), q->result, r))                                \
+    ROW(fpow, "=vv", galmuriec_field_mod_pow(V(0), V(1), q->result, r))                         \
     ROW(nttf, "C", galmuriec_coset_ntt_noswap_64(S(0), r))                                      \
     ROW(ntti, "C", galmuriec_coset_intt_noswap_64(S(0), r))                                     \
     ROW(radd, "ccN", galmuriec_ring_add(S(0), S(1), S(2), r))                                   \
@@ -230,7 +248,7 @@ static int same(const struct part *p, size_t from)
     ROW(mtco, "ccN", galmuriec_matrix_times_column(S(0), S(1), S(2), r))                        \
     ROW(rtma, "ccN", galmuriec_row_times_matrix(S(0), S(1), S(2), r))                           \
     ROW(rtco, "ccN", galmuriec_row_times_column(S(0), S(1), S(2), r))                           \
-    ROW(sbfe, "=b", galmuriec_sample_short_bfield_element(S(0), &q->result, r))                 \
+    ROW(sbfe, "=b", galmuriec_sample_short_bfield_element(S(0), q->result, r))                  \
     ROW(ssho, "bN", galmuriec_sample_short(S(0), S(1), r))                                      \
     ROW(suni, "bN", galmuriec_sample_uniform(S(0), S(1), r))                                    \
     ROW(embd, "bN", galmuriec_embed_msg(S(0), S(1), r))                                         \
@@ -264,6 +282,38 @@ struct call {
 
 #define ENTRY(name, kinds, call) {#name, kinds, ask_##name},
 static const struct call calls[] = {CALLS(ENTRY)};
+enum { COUNT = sizeof calls / sizeof calls[0] };
+
+static int gives(const struct call *c)
+{
+    return c->kinds[0] == '=';
+}
+
+static const char *kinds_of(const struct call *c)
+{
+    return c->kinds + gives(c);
+}
+
+/* Which slices of each call were lent as NULL. */
+static int was_null[COUNT][4];
+
+static void see_null(const struct question *q, const struct call *c)
+{
+    for (int k = 0; k < 4; k++)
+        if (q->part[k].width != 0 && q->part[k].lent == NULL)
+            was_null[c - calls][k] = 1;
+}
+
+/* Bare, every slice of every call must have been. */
+static void all_were_null(void)
+{
+    for (int i = 0; i < COUNT; i++) {
+        const char *kinds = kinds_of(&calls[i]);
+        for (int k = 0; kinds[k]; k++)
+            if (width(kinds[k]) != 0 && !was_null[i][k])
+                stop("a slice was never NULL");
+    }
+}
 
 /* ---- telling an answer */
 static void tell_bytes(const uint8_t *s, size_t n)
@@ -279,10 +329,10 @@ static void tell_numbers(const uint64_t *s, size_t n)
         printf(" %016lx", s[i]);
 }
 
-static void tell_done(const struct question *q, const char *kinds, int gives)
+static void tell_done(const struct question *q, const char *kinds, int given)
 {
-    if (gives)
-        printf("given %016lx", q->result);
+    if (given)
+        printf("given %016lx", *q->result);
     else
         printf("done");
     for (int k = 0; kinds[k]; k++)
@@ -292,13 +342,15 @@ static void tell_done(const struct question *q, const char *kinds, int gives)
             tell_numbers(q->part[k].at, q->part[k].count);
 }
 
-static void tell_refused(const struct question *q, const char *kinds, int gives, const galmuriec_refusal *r, uint64_t before)
+static void tell_refused(const struct question *q, const char *kinds, int given, const galmuriec_refusal *r, uint64_t before)
 {
-    int kept = q->result == before;
+    printf("refused %02lx %02lx %016lx", r->number, r->argument, r->place);
+    if (bare)
+        return;
+    int kept = *q->result == before;
     for (int k = 0; kinds[k]; k++)
         kept = kept && same(&q->part[k], 0);
-    printf("refused %02lx %02lx %016lx", r->number, r->argument, r->place);
-    if (!gives || !kept)
+    if (!given || !kept)
         printf(kept ? " kept" : " changed");
 }
 
@@ -309,7 +361,8 @@ static void tell_job(const struct question *q, uint64_t length)
     printf(fits ? "wrote %016lx" : "needs %016lx", length);
     if (fits)
         tell_bytes(out->at, length);
-    printf(same(out, fits ? length : 0) ? " kept" : " changed");
+    if (!bare)
+        printf(same(out, fits ? length : 0) ? " kept" : " changed");
 }
 
 /* Nothing but the outputs may change, and nothing behind any slice. */
@@ -323,41 +376,50 @@ static int spilled(const struct question *q, const char *kinds)
 
 static void answer(struct question *q, const struct call *c)
 {
-    int gives = c->kinds[0] == '=';
-    const char *kinds = c->kinds + gives;
-    galmuriec_refusal refusal = {~q->part[0].seed, ~q->part[1].seed, ~q->part[2].seed};
+    const char *kinds = kinds_of(c);
+    galmuriec_refusal *refusal = room(sizeof *refusal), rubbish = {~q->part[0].seed, ~q->part[1].seed, ~q->part[2].seed};
     uint64_t before = ~q->part[0].seed;
     lend(q, kinds);
-    q->result = before;
-    uint64_t returned = c->ask(q, &refusal);
+    see_null(q, c);
+    q->result = room(sizeof *q->result);
+    if (!bare) {
+        *q->result = before;
+        *refusal = rubbish;
+    }
+    uint64_t returned = c->ask(q, refusal);
     if (strchr("jeo", kinds[0]))
         tell_job(q, returned);
-    else if (returned != refusal.number)
-        printf("returned %016lx and recorded %016lx", returned, refusal.number);
+    else if (returned != refusal->number)
+        printf("returned %016lx and recorded %016lx", returned, refusal->number);
     else if (returned != 0)
-        tell_refused(q, kinds, gives, &refusal, before);
-    else if (refusal.argument != 0 || refusal.place != 0)
+        tell_refused(q, kinds, gives(c), refusal, before);
+    else if (refusal->argument != 0 || refusal->place != 0)
         printf("recorded a refusal of a call that is done");
     else
-        tell_done(q, kinds, gives);
+        tell_done(q, kinds, gives(c));
     puts(spilled(q, kinds) ? " spilled" : "");
     for (int k = 0; k < 4; k++) {
         free(q->part[k].at);
         free(q->part[k].before);
     }
+    free(q->result);
+    free(refusal);
 }
 
-int main(void)
+int main(int count, char **words)
 {
     struct question q;
+    bare = count > 1 && strcmp(words[1], "bare") == 0;
     while (read_question(&q)) {
-        size_t n = sizeof calls / sizeof calls[0], i = 0;
-        while (i < n && strcmp(calls[i].word, q.word) != 0)
+        int i = 0;
+        while (i < COUNT && strcmp(calls[i].word, q.word) != 0)
             i++;
-        if (i < n)
+        if (i < COUNT)
             answer(&q, &calls[i]);
         else
             printf("unknown %s\n", q.word);
     }
+    if (bare)
+        all_were_null();
     return 0;
 }

@@ -36,13 +36,17 @@
  *
  * What this boundary does not check, and the caller owes
  *   - Each pointer is valid for as many elements as its count says: readable for an input, readable and writable for a
- *     buffer, *result and *refusal. A count of 0 still wants a pointer that is not null and is aligned.
- *   - Memory that is lent is initialised: buffers, *result and *refusal too.
- *   - Pointers to uint64_t and to galmuriec_refusal are aligned for uint64_t (8 bytes).
+ *     buffer, *result and *refusal. Nothing is read or written through a pointer whose count is 0: it may be NULL.
+ *   - Inputs are initialised, and so is what a call turns in place. A buffer that it fills, *result and *refusal need not be.
+ *   - Pointers to uint64_t and to galmuriec_refusal are aligned for uint64_t (8 bytes), unless their count is 0.
  *   - What is lent to one call does not overlap, except that two inputs may be the same or overlap. No other thread
  *     writes what is lent, or reads a buffer, during the call.
  *   - A slice has at most 2^63 - 1 bytes.
  *   - The machine is an x86-64 with Linux and the System V calling convention; the caller's stack has 64 KiB left.
+ *   On NULL and on memory never written: it is proved that the code touches nothing of an empty slice, and that what a call
+ *   writes is the same whatever a buffer held. That C's NULL and C's uninitialised memory come under this is no theorem, since
+ *   no reference of the proved language is NULL or leads to memory without a value; callers/README.md gives the reasons, and
+ *   callers/run tries every call so.
  *   No call allocates, blocks, keeps a pointer or has state of its own: calls may run in several threads at once.
  *   Randomness is the caller's: 32 bytes that nobody can guess. What of a secret is left on the stack, and how long a call
  *   takes, is promised nowhere.
