@@ -1,12 +1,12 @@
 -- What follows from demand 3 for packets that were sealed for the key, also through their bytes.
 use mathlib.Core.Path.{_≡_, refl, ap, _∙_}
 use mathlib.Core.List.{List, [], _∷_, _++_}
-use Prim.Native.Nat.{ℕ, _^_, _<_}
+use Prim.Native.Nat.{ℕ, _^_}
 use native.Mathlib.Nat.{lt-trans}
 use native.Mathlib.Omega.{arith}
 use lib.Dec.{lit<}
-use lib.ListN.{length, take}
-use lib.Seq.{take-at, drop-at, take-all}
+use lib.ListN.{length, take, drop, length-drop}
+use lib.Seq.{take-at, drop-at, take-all, length-take-le}
 use Rattle.laws.specs.Lists.{Below}
 use Rattle.field.specs.Field.{Coefficients}
 use Rattle.codec.specs.Layout.{words, bytes}
@@ -17,9 +17,9 @@ use Rattle.hash.proofs.Outputs.{below-shake256}
 use Rattle.packets.specs.Parameters.{vector-numbers, vector-bytes, key-bytes, seed-bytes, payload-bytes}
 use Rattle.packets.specs.Packets.{Bytes, PublicKey, payload, secret-key, public-key, keygen, sealing, enc, key, dec}
 use Rattle.packets.specs.Layout.{public-bytes, public-of}
-use Rattle.packets.specs.Demand3.{Quiet}
-use Rattle.packets.proofs.Canonical.{append-below, part-below, public-canonical, sealing-canonical}
-use Rattle.packets.proofs.Demand3.{quiet-read, its-key-is}
+use Rattle.packets.specs.Opening.{Quiet}
+use Rattle.packets.proofs.Canonical.{append-below, public-canonical, sealing-canonical}
+use Rattle.packets.proofs.Opening.{quiet-read, its-key-is}
 
 -- ---- bytes
 pub payload-is-bytes : (r : List ℕ) → Bytes payload-bytes (payload r)
@@ -46,9 +46,9 @@ public-back pk hs hg =
     λ i. record { seed = take-at (pk .seed) packed seed-bytes hs i; ga = ga i }
 
 module _ (count : ℕ → ℕ) where
-  seed-size : (sk : List ℕ) → Bytes secret-key-bytes sk → length (public-key count sk .seed) ≡ seed-bytes
+  seed-size : (sk : List ℕ) → length sk ≡ secret-key-bytes → length (public-key count sk .seed) ≡ seed-bytes
   unfolding public-key
-  seed-size sk h = part-below 256 key-bytes seed-bytes secret-key-bytes sk (lit< tt) (omega arith) h .size
+  seed-size sk h = length-take-le seed-bytes (drop key-bytes sk) (omega (arith, length-drop key-bytes sk, h))
 
   pub ciphertext-canonical : (pk : PublicKey) (r : List ℕ) → Coefficients ciphertext-numbers (enc count pk r .ciphertext)
   unfolding enc
@@ -71,12 +71,20 @@ module _ (count : ℕ → ℕ) where
   unfolding enc
   packet-opens sk r q = sealed-opens sk (payload r) (payload-is-bytes r) q
 
-  -- the same through the bytes of public key and ciphertext
-  pub bytes-open : (sk r : List ℕ) → Bytes secret-key-bytes sk → Quiet count sk (payload r)
+  -- the same through the bytes of the public key,
+  pub numbers-open : (sk r : List ℕ) → length sk ≡ secret-key-bytes → Quiet count sk (payload r)
       → let packet = enc count (public-of (public-bytes (public-key count sk))) r in
-      dec count sk (words (bytes (packet .ciphertext))) ≡ key (packet .shared)
-  bytes-open sk r h q =
+      dec count sk (packet .ciphertext) ≡ key (packet .shared)
+  numbers-open sk r h q =
       let pk = public-key count sk in
       let e : public-of (public-bytes pk) ≡ pk = public-back pk (seed-size sk h) (public-canonical count sk) in
-      let fits = fits-word ciphertext-numbers _ (ciphertext-canonical pk r) in
-      rw (e, words-bytes (enc count pk r .ciphertext) ciphertext-numbers fits) (packet-opens sk r q)
+      rw e (packet-opens sk r q)
+
+  -- and through those of the ciphertext
+  pub words-back : (pk : PublicKey) (r : List ℕ) → words (bytes (enc count pk r .ciphertext)) ≡ enc count pk r .ciphertext
+  words-back pk r = words-bytes (enc count pk r .ciphertext) ciphertext-numbers (fits-word ciphertext-numbers _ (ciphertext-canonical pk r))
+
+  pub bytes-open : (sk r : List ℕ) → length sk ≡ secret-key-bytes → Quiet count sk (payload r)
+      → let packet = enc count (public-of (public-bytes (public-key count sk))) r in
+      dec count sk (words (bytes (packet .ciphertext))) ≡ key (packet .shared)
+  bytes-open sk r h q = rw (words-back (public-of (public-bytes (public-key count sk))) r) (numbers-open sk r h q)

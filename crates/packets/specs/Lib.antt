@@ -2,4 +2,4 @@
 pub mod Parameters
 pub mod Packets
 pub mod Layout
-pub mod Demand3
+pub mod Opening

@@ -3,15 +3,15 @@
 use mathlib.Core.Bool.{true}
 use mathlib.Core.Path.{_≡_, refl, sym, ap, ap₂, _∙_}
 use mathlib.Core.List.{List, [], _∷_}
-use Prim.Native.Nat.{ℕ, suc, _-_, _/_}
-use lib.Dec.{eqb}
+use Prim.Native.Nat.{ℕ, zero, suc, _-_, _/_}
+use lib.Dec.{eqb, lit<}
 use lib.ListN.{length, getD, drop, length-drop}
-use borrow.Author.Tests.{eqb-true, leb-true}
+use borrow.Author.Tests.{eqb-true, leb-true, eq-eqb, le-leb}
 use Rattle.laws.specs.Choices.{pick}
 use Rattle.codec.proofs.Layouts.{length-words}
 use Rattle.refusals.specs.Arguments.{Asked, numbers, packed, room, at-most, value, anything, fits, coefficients, AsAsked, Each}
 use Rattle.refusals.specs.Judgement.{Told, No, gives, refuses, fine, then, judged}
-use Rattle.refusals.specs.Exactly.{Canonical, Clean}
+use Rattle.refusals.specs.Exactly.{the, Canonical, Clean}
 use Rattle.refusals.specs.Answers.{paper, said, told, told-two, Lent, into, olds, left, Call}
 use Rattle.refusals.proofs.Exactly.{exactly-0}
 use Rattle.refusals.specs.declared.Refusal.{Refusal}
@@ -35,19 +35,58 @@ as-one (at-most n m) f c = leb-true m n f
 as-one (value x) f c = c 0
 as-one anything f c = record {}
 
-as-each : (args : List Asked) → Clean args → Each args
+pub as-each : (args : List Asked) → Clean args → Each args
 as-each [] c = record {}
 as-each (a ∷ args) c = (
   as-one a (c .all-fit 0) (c .all-canonical 0),
   as-each args (record { all-fit = λ k. c .all-fit (suc k); all-canonical = λ k. c .all-canonical (suc k) }),
 )
 
+-- and the other way: where every argument is as asked, nothing is wrong
+fits-as : (a : Asked) → AsAsked a → fits a ≡ true
+unfolding fits
+fits-as (numbers n l) h = eq-eqb (length l) n (h .size)
+fits-as (packed n k l) h = eq-eqb (length l) n (h .0)
+fits-as (room n m) h = eq-eqb m n h
+fits-as (at-most n m) h = le-leb m n h
+fits-as (value x) h = refl
+fits-as anything h = refl
+
+none-canonical : Canonical []
+none-canonical i = lit< tt
+
+canonical-as : (a : Asked) → AsAsked a → Canonical (coefficients a)
+unfolding coefficients
+canonical-as (numbers n l) h = h .each
+canonical-as (packed n k l) h = h .1 .each
+canonical-as (room n m) h = none-canonical
+canonical-as (at-most n m) h = none-canonical
+canonical-as (value x) h = one
+  where
+    one : Canonical (x ∷ [])
+    one zero = h
+    one (suc i) = lit< tt
+canonical-as anything h = none-canonical
+
+pub each-clean : (args : List Asked) → Each args → Clean args
+each-clean args h = record { all-fit = fit args h; all-canonical = canonical args h }
+  where
+    fit : (args : List Asked) → Each args → (k : ℕ) → fits (the args k) ≡ true
+    fit [] h k = fits-as anything (record {})
+    fit (a ∷ args) h zero = fits-as a (h .0)
+    fit (a ∷ args) h (suc k) = fit args (h .1) k
+
+    canonical : (args : List Asked) → Each args → (k : ℕ) → Canonical (coefficients (the args k))
+    canonical [] h k = canonical-as anything (record {})
+    canonical (a ∷ args) h zero = canonical-as a (h .0)
+    canonical (a ∷ args) h (suc k) = canonical args (h .1) k
+
 -- where the judging function answers that it is done, every argument is as asked
 pub as-asked : (v : Answer) (args : List Asked) → v ≡ Done → said v ≡ judged args → Each args
 as-asked v args e f = as-each args (exactly-0 args .0 (sym f ∙ ap said e))
 
 -- ---- the two ends of a call
-left-no : (r : No) (lent : List Lent) → left (refuses r) lent ≡ olds lent
+pub left-no : (r : No) (lent : List Lent) → left (refuses r) lent ≡ olds lent
 left-no r [] = refl
 left-no r (b ∷ lent) = ap (λ (l : List (List ℕ)). b .old ∷ l) (left-no r lent)
 

@@ -3,7 +3,7 @@
 use mathlib.Core.Bool.{Bool, true, false}
 use mathlib.Core.Path.{_≡_, refl, sym, ap, _∙_, subst}
 use mathlib.Core.List.{List, [], _∷_}
-use mathlib.Core.Logic.{_⊎_, inl, inr, ⊎-elim, _↔_}
+use mathlib.Core.Logic.{_⊎_, inl, inr}
 use Prim.Native.Nat.{ℕ, zero, suc, _+_, _≤_, _<_, zero-le, suc-le-suc}
 use native.Mathlib.Nat.{add-zero, le-of-suc-le-suc}
 use native.Mathlib.Omega.{arith}
@@ -15,7 +15,7 @@ use Rattle.field.specs.Field.{P}
 use Rattle.refusals.specs.Arguments.{Asked, anything, fits, coefficients}
 use Rattle.refusals.specs.Judgement.{Told, No, sign, gives, refuses, fine, Fault, no-fault, fault, unless}
 use Rattle.refusals.specs.Judgement.{lead, found, looked, lengths, canonicals, blame, passed, tested, judged}
-use Rattle.refusals.specs.Exactly.{the, Canonical, Misfit, Bad, Clean, Exactly-1, Exactly-2, Exactly-0}
+use Rattle.refusals.specs.Exactly.{the, Canonical, Misfit, Bad, Clean, Exactly-1, Exactly-2, Exactly-0, OneOfThree}
 use Rattle.refusals.proofs.Leads.{lead-before, lead-at, lead-all, all-lead, lead-is}
 use Rattle.refusals.proofs.Steps.{looked-some}
 
@@ -312,12 +312,7 @@ exactly-2 args k i = (λ e. go e (three args), told-2 args k i)
         subst (λ (j : ℕ). Bad args j i) a (subst (λ (j : ℕ). Bad args (w .0) j) (sym (s .2)) (w .2))
     go e (inr (inr c)) = let s = same-sign _ _ (sym e ∙ told-0 args c) in absurd (omega (arith, s .0))
 
--- and nothing else is ever told: no other number, and no other argument or place
-abbrev OneOfThree : List Asked → Type 0
-OneOfThree args =
-    ((k : ℕ) × (judged args ≡ refuses (sign 1 (1 + k) 0)))
-    ⊎ (((k : ℕ) × (i : ℕ) × (judged args ≡ refuses (sign 2 (1 + k) i))) ⊎ (judged args ≡ fine))
-
+-- and nothing else is ever told
 pub one-of-three : (args : List Asked) → OneOfThree args
 one-of-three args = go (three args)
   where

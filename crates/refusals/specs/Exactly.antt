@@ -1,8 +1,9 @@
--- The document's table: when exactly a call is refused by number 1, by number 2, and not at all. proofs/Exactly proves the three.
+-- The document's table, numbers 1 and 2, which every call is judged by: when exactly each is told, and when neither is. proofs/Exactly proves them;
+-- the whole table, about what the calls tell, is specs/Table of crate demands.
 use mathlib.Core.Bool.{true, false}
 use mathlib.Core.Path.{_≡_}
 use mathlib.Core.List.{List}
-use mathlib.Core.Logic.{_↔_}
+use mathlib.Core.Logic.{_↔_, _⊎_}
 use Prim.Native.Nat.{ℕ, _+_, _≤_, _<_}
 use lib.ListN.{getD}
 use Rattle.field.specs.Field.{P}
@@ -41,3 +42,9 @@ Exactly-2 = (args : List Asked) (k i : ℕ) → (judged args ≡ refuses (sign 2
 
 abbrev pub Exactly-0 : Type 0
 Exactly-0 = (args : List Asked) → (judged args ≡ fine) ↔ Clean args
+
+-- nothing else is ever told by the judgement: no other number, and no other argument or place
+abbrev pub OneOfThree : List Asked → Type 0
+OneOfThree args =
+    ((k : ℕ) × (judged args ≡ refuses (sign 1 (1 + k) 0)))
+    ⊎ (((k : ℕ) × (i : ℕ) × (judged args ≡ refuses (sign 2 (1 + k) i))) ⊎ (judged args ≡ fine))

@@ -1,5 +1,5 @@
--- DEMAND 3, as a record: `demand-3` of proofs/Demand3 proves it for every secret key and every ciphertext whose coefficients are below p.
--- `dec`, `sealing` and `public-key` are those that the contracts of `enc` and `dec` cite.
+-- When a ciphertext opens: demand 3 about the definition `dec`, which `opening` of proofs/Opening proves for every secret key and every ciphertext
+-- of 320 numbers. Demand 3 about the public calls is specs/Demand3 of crate demands.
 use mathlib.Core.Path.{_≡_}
 use mathlib.Core.Logic.{_↔_}
 use mathlib.Core.List.{List}
@@ -31,7 +31,7 @@ module _ (count : ℕ → ℕ) where
     pub sealed : sealing count (public-key count sk) m ≡ ct
     pub read : Read sk m
 
-  pub record Demand3 (sk ct : List ℕ) : Type 0 where
+  pub record Opening (sk ct : List ℕ) : Type 0 where
     -- opening gives a key exactly when such a payload exists
     pub exactly : ((k : List ℕ) × (dec count sk ct ≡ key k)) ↔ ((m : List ℕ) × Opens sk ct m)
     -- there is then only one

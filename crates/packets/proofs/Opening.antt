@@ -1,7 +1,7 @@
--- Demand 3: `demand-3`. The heart is `extracted-sealing`: what `dec` extracts from a sealing under the key's own public key.
+-- When a ciphertext opens: `opening`. The heart is `extracted-sealing`: what `dec` extracts from a sealing under the key's own public key.
 use mathlib.Core.Path.{_≡_, refl, sym, ap, ap₂, _∙_, subst}
 use mathlib.Core.Bool.{Bool, true, false}
-use mathlib.Core.Logic.{_↔_}
+use mathlib.Core.Logic.{_↔_, _≢_}
 use mathlib.Core.List.{List, _++_}
 use Prim.Native.Nat.{ℕ, _+_, _*_, _<_}
 use native.Mathlib.Omega.{arith}
@@ -11,8 +11,7 @@ use lib.Seq.{ext-getD, take-at, drop-at, take-all}
 use Rattle.laws.specs.Choices.{pick}
 use Rattle.laws.specs.Lists.{part}
 use Rattle.laws.proofs.Tests.{all-at, all-of}
-use Rattle.codec.specs.Sizes.{secret-key-bytes, ciphertext-numbers}
-use Rattle.field.specs.Field.{Coefficients}
+use Rattle.codec.specs.Sizes.{ciphertext-numbers}
 use Rattle.ring.specs.Transform.{transform, untransform}
 use Rattle.ring.specs.Elements.{plus, minus}
 use Rattle.ring.specs.Matrices.{cell, transforms}
@@ -20,7 +19,6 @@ use Rattle.ring.proofs.Cells.{cell-transforms}
 use Rattle.ring.proofs.Matrices.{dot-ext, matrix-single, bg, bga-m, opened}
 use Rattle.ring.proofs.Products.{minus-canonical}
 use Rattle.lanes.specs.Messages.{embed, extract}
-use Rattle.lanes.specs.Samplers.{ones}
 use Rattle.lanes.proofs.Messages.{embed-canonical, extract-bytes}
 use Rattle.noise.specs.Noise.{noise}
 use Rattle.noise.proofs.Harmless.{noise-theorem}
@@ -28,7 +26,7 @@ use Rattle.hash.specs.Fips202.{sha3-256}
 use Rattle.packets.specs.Parameters.{vector-numbers, payload-bytes}
 use Rattle.packets.specs.Packets.{Bytes, key-of, seed-of, PublicKey, G, first, second, public-key, bg-of, bga-m-of, sealing, extracted}
 use Rattle.packets.specs.Packets.{Opened, key, differs, same, dec}
-use Rattle.packets.specs.Demand3.{noise-of, Read, Quiet, Opens, Demand3}
+use Rattle.packets.specs.Opening.{noise-of, Read, Quiet, Opens, Opening}
 use Rattle.packets.proofs.Products.{ga-cell, bg-cell, bga-m-row}
 use Rattle.packets.proofs.Canonical.{first-cell, second-cell, bg-canonical, bga-m-canonical, sealing-canonical}
 
@@ -51,6 +49,10 @@ key-yes false k h = absurd h
 abbrev is-key : Opened → Type 0
 is-key (key k) = Unit
 is-key differs = ⊥
+
+no-key : (b : Bool) (k : List ℕ) → (T b → ⊥) → pick b (key k) differs ≡ differs
+no-key true k h = absurd (h tt)
+no-key false k h = refl
 
 yes-key : (b : Bool) (j k : List ℕ) → pick b (key j) differs ≡ key k → T b
 yes-key true j k e = tt
@@ -136,6 +138,18 @@ module _ (count : ℕ → ℕ) where
       (yes-key (same ciphertext-numbers (sealing count (public-key count sk) m) ct) (sha3-256 m) k e) in
       record { payload = extract-bytes _; sealed = s; read = sym (extracted-sealing sk m) ∙ ap (extracted count sk) s }
 
+  -- it gives none exactly when the regenerated ciphertext differs
+  pub differs-when : (sk ct : List ℕ) → length ct ≡ ciphertext-numbers
+      → (dec count sk ct ≡ differs) ↔ (sealing count (public-key count sk) (extracted count sk ct) ≢ ct)
+  unfolding dec
+  differs-when sk ct h =
+      let m = extracted count sk ct in
+      let anew = sealing count (public-key count sk) m in
+      let size = sealing-canonical count (public-key count sk) m .size in (
+        (λ e f. subst is-key (sym (key-yes (same ciphertext-numbers anew ct) (sha3-256 m) (rw f (same-refl ciphertext-numbers ct))) ∙ e) tt),
+        (λ ne. no-key (same ciphertext-numbers anew ct) (sha3-256 m) (λ y. ne (same-is ciphertext-numbers anew ct size h y))),
+      )
+
   -- `dec` answers and the extracted payload is m, exactly when m opens
   pub opens-as : (sk ct m : List ℕ) → length ct ≡ ciphertext-numbers
       → ((k : List ℕ) × (dec count sk ct ≡ key k) × (extracted count sk ct ≡ m)) ↔ Opens count sk ct m
@@ -148,18 +162,14 @@ module _ (count : ℕ → ℕ) where
   unfolding noise-of noise
   quiet-read sk m h q = noise-theorem m (noise-of count sk m) h (minus-canonical 64 _ _) q
 
-  -- for every secret key and every ciphertext of canonical coefficients; of the premises only the ciphertext's length is used
-  pub demand3 : (sk ct : List ℕ) → Bytes secret-key-bytes sk → Coefficients ciphertext-numbers ct → Demand3 count sk ct
-  demand3 sk ct hsk hct = record {
+  -- for every secret key and every ciphertext of 320 numbers
+  pub opening : (sk ct : List ℕ) → length ct ≡ ciphertext-numbers → Opening count sk ct
+  opening sk ct h = record {
     exactly = (
-      (λ o. (extracted count sk ct, opens-if sk ct (o .0) (hct .size) (o .1))),
+      (λ o. (extracted count sk ct, opens-if sk ct (o .0) h (o .1))),
       (λ o. (sha3-256 (o .0), its-key-is sk ct (o .0) (o .1))),
     );
     only-one = λ m n om on. sym (opens-extracted sk ct m om) ∙ opens-extracted sk ct n on;
     its-key = its-key-is sk ct;
     small = quiet-read sk;
   }
-
--- DEMAND 3, with the Rust's sampler
-pub demand-3 : (sk ct : List ℕ) → Bytes secret-key-bytes sk → Coefficients ciphertext-numbers ct → Demand3 ones sk ct
-demand-3 = demand3 ones
