@@ -3,6 +3,7 @@ ghost use mathlib.Core.Path.{_≡_};
 ghost use Prim.Native.Nat.{_+_, _*_, _<_, _≤_};
 ghost use lib.ListN.{length};
 ghost use Rattle.codec.specs.Layout.{word, words, bytes, with-word};
+ghost use Rattle.codec.specs.Sizes as sizes;
 
 // ---- sizes: specs/Sizes says what each is made of
 pub const SECRET_KEY_BYTES: usize = 64;
@@ -16,6 +17,16 @@ pub const CIPHERTEXT_BYTES: usize = 2560;
 pub const SHARED_KEY_BYTES: usize = 32;
 
 pub const RANDOMNESS_BYTES: usize = 32;
+
+// Holds them to specs/Sizes: its contract is about them, and nothing calls it.
+fn sizes()
+    ensures secret_key { λ _. do ⌜ (← ⟦SECRET_KEY_BYTES⟧ .entry) ≡ sizes.secret-key-bytes ⌝ }
+    ensures public_key { λ _. do ⌜ (← ⟦PUBLIC_KEY_BYTES⟧ .entry) ≡ sizes.public-key-bytes ⌝ }
+    ensures numbers { λ _. do ⌜ (← ⟦CIPHERTEXT_NUMBERS⟧ .entry) ≡ sizes.ciphertext-numbers ⌝ }
+    ensures ciphertext { λ _. do ⌜ (← ⟦CIPHERTEXT_BYTES⟧ .entry) ≡ sizes.ciphertext-bytes ⌝ }
+    ensures shared_key { λ _. do ⌜ (← ⟦SHARED_KEY_BYTES⟧ .entry) ≡ sizes.shared-key-bytes ⌝ }
+    ensures randomness { λ _. do ⌜ (← ⟦RANDOMNESS_BYTES⟧ .entry) ≡ sizes.randomness-bytes ⌝ }
+{}
 
 // ---- bytes and numbers
 // A byte as a number: asks for no proof that it fits.

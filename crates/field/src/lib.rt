@@ -183,6 +183,13 @@ impl BFieldElement {
     // 2^128 modulo p, which makes a Montgomery word.
     pub const R2: u64 = 0xffff_fffe_0000_0001;
 
+    // Holds the constants to their values: its contract is about them, and nothing calls it.
+    fn constants()
+        ensures p { λ _. do ⌜ ((← ⟦Self::P⟧ .entry) ≡ P) × (P ≡ 2 ^ 64 - 2 ^ 32 + 1) ⌝ }
+        ensures max { λ _. do ⌜ (← ⟦Self::MAX⟧ .entry) ≡ P - 1 ⌝ }
+        ensures r2 { λ _. do ⌜ (← ⟦Self::R2⟧ .entry) ≡ 2 ^ 128 % P ⌝ }
+    {}
+
     pub fn new(value: u64) -> Self
         ensures { λ r. ⌜ Stands r (value % P) ⌝ }
     {
