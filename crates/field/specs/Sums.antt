@@ -1,3 +1,4 @@
+-- Nobody above crate ring needs to believe this file: the matrix products there, proved over it, promise `matrix`.
 -- What a sum of products of plain numbers stands for, held in three words of 64 bits.
 use Prim.Native.Nat.{ℕ}
 use Rattle.field.specs.declared.SumOfProducts.{SumOfProducts}

@@ -10,7 +10,8 @@ use lib.ListN.{getD}
 use Rattle.laws.specs.Bits.{bit}
 use Rattle.laws.specs.Choices.{pick}
 use Rattle.laws.proofs.Lists.{is-tab}
-use Rattle.laws.proofs.Tests.{all, all-at, equal-at}
+use Rattle.laws.specs.Tests.{all}
+use Rattle.laws.proofs.Tests.{all-at, equal-at}
 use Rattle.keccak.specs.Keccak.{shift, shifts, rc, marked, RC}
 use Rattle.keccak.specs.Lanes.{marks, constant, constants}
 

@@ -1,4 +1,5 @@
--- States with some lanes kept complemented.
+-- Nobody needs to believe this file: `uncomplemented` (proofs/Flips) says that what is worked out over it is `keccak-p`, which is all that
+-- `permute` promises. States with some lanes kept complemented.
 use mathlib.Core.Bool.{Bool, true, false, not, _||_}
 use mathlib.Core.List.{List}
 use Prim.Native.Nat.{ℕ, _+_, _-_, _*_, _%_, _^_}

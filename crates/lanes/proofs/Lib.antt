@@ -1,3 +1,4 @@
--- Laws of the samplers and of message lanes.
+-- Laws of the samplers and of message lanes, and the points at the edges.
 pub mod Samplers
 pub mod Messages
+pub mod Points

@@ -13,7 +13,7 @@ use Rattle.laws.specs.Lists.{Below}
 use Rattle.laws.specs.Bits.{bit}
 use Rattle.laws.proofs.Bits.{bit-lt}
 use Rattle.laws.proofs.Orders.{le-or-lt}
-use Rattle.laws.proofs.Tests.{both}
+use Rattle.laws.specs.Tests.{both}
 use Rattle.laws.proofs.Lists.{getD-tab}
 use Rattle.laws.proofs.Bounds.{tab-below}
 use Rattle.field.specs.Field.{P, Coefficients}

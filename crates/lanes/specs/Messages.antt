@@ -5,7 +5,7 @@ use Prim.Native.Nat.{ℕ, _+_, _*_, _/_, _%_, _^_}
 use lib.Dec.{leb}
 use lib.ListN.{getD}
 use Rattle.laws.specs.Lists.{tab}
-use Rattle.laws.proofs.Tests.{both}
+use Rattle.laws.specs.Tests.{both}
 use Rattle.laws.specs.Bits.{bit}
 use Rattle.lanes.specs.FourLanes.{placed}
 

@@ -15,7 +15,8 @@ use lib.Pow.{pow-add}
 use Rattle.laws.proofs.Congruence.{mul-mod-l}
 use Rattle.laws.proofs.Powers.{pow-mod, pow-mul, one-pow, powmod, powmod-is}
 use Rattle.laws.proofs.Pigeonhole.{onto, Meets}
-use Rattle.laws.proofs.Tests.{both, both-left, both-right}
+use Rattle.laws.specs.Tests.{both}
+use Rattle.laws.proofs.Tests.{both-left, both-right}
 
 -- ---- exponents at which a power of w is 1
 abbrev One : ℕ → ℕ → ℕ → Type 0

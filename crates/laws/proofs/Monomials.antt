@@ -4,7 +4,8 @@ use mathlib.Core.Bool.{Bool, true, false}
 use mathlib.Core.List.{List, [], _∷_}
 use Prim.Native.Nat.{ℕ}
 use lib.Dec.{T, ltb, eqb, eqb→eq}
-use Rattle.laws.proofs.Tests.{both, both-left, both-right}
+use Rattle.laws.specs.Tests.{both}
+use Rattle.laws.proofs.Tests.{both-left, both-right}
 
 abbrev pub alike : List ℕ → List ℕ → Bool
 alike [] [] = true

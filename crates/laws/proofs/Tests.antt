@@ -6,11 +6,8 @@ use Prim.Native.Nat.{ℕ, zero, suc, _<_, _≤_}
 use native.Mathlib.Nat.{not-suc-le-zero}
 use native.Mathlib.Omega.{arith}
 use lib.Dec.{T, eqb, eqb→eq}
+use Rattle.laws.specs.Tests.{both, all}
 use Rattle.laws.proofs.Orders.{le-or-lt}
-
-abbrev pub both : Bool → Bool → Bool
-both true b = b
-both false b = false
 
 pub both-left : (a b : Bool) → T (both a b) → T a
 both-left true b t = tt
@@ -19,11 +16,6 @@ both-left false b t = t
 pub both-right : (a b : Bool) → T (both a b) → T b
 both-right true b t = t
 both-right false b t = absurd t
-
--- the test f passes at 0, 1, .. , n - 1
-abbrev pub all : (ℕ → Bool) → ℕ → Bool
-all f zero = true
-all f (suc n) = both (f n) (all f n)
 
 pub all-at : (f : ℕ → Bool) (n : ℕ) → T (all f n) → (k : ℕ) → k < n → T (f k)
 all-at f zero t k h = absurd (not-suc-le-zero h)

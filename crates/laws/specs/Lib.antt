@@ -1,6 +1,7 @@
 -- Definitions that other crates' definitions are written with.
 pub mod Lists
 pub mod Choices
+pub mod Tests
 pub mod Bits
 pub mod Congruence
 pub mod Rings

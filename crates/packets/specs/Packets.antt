@@ -7,7 +7,7 @@ use lib.Dec.{eqb}
 use lib.ListN.{getD, take}
 use Rattle.laws.specs.Choices.{pick}
 use Rattle.laws.specs.Lists.{Below, part}
-use Rattle.laws.proofs.Tests.{all}
+use Rattle.laws.specs.Tests.{all}
 use Rattle.codec.specs.Sizes.{ciphertext-numbers}
 use Rattle.ring.specs.Transform.{transform, untransform}
 use Rattle.ring.specs.Elements.{plus, minus}

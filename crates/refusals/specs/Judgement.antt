@@ -33,6 +33,7 @@ then (gives xs) t = t
 then (refuses r) t = refuses r
 
 -- ---- what is found at one argument by one test: nothing, or a number and a place
+-- (nobody needs to believe how it is put together from here on: `exactly-1`, `exactly-2` and `exactly-0` of proofs/Exactly say what `judged` tells)
 pub data Fault : Type 0 where
   no-fault : Fault
   fault : ℕ → ℕ → Fault

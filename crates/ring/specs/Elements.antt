@@ -25,7 +25,7 @@ hadamard a b = tab 64 (λ k. getD a k 0 * getD b k 0 % P)
 unfoldable pub shift : List ℕ → ℕ → ℕ → ℕ
 shift b m i = elim (leb i m) [ true ↦ getD b (m - i) 0 | false ↦ P - getD b (64 + m - i) 0 ]
 
--- the product modulo X^64 + 1 and p
+-- the product modulo X^64 + 1 and p (`product-remainder` and `remainder-only` of proofs/Remainders say that it is)
 unfoldable pub product : List ℕ → List ℕ → List ℕ
 product a b = tab 64 (λ m. total 64 (λ i. getD a i 0 * shift b m i) % P)
 

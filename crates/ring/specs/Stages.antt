@@ -1,5 +1,5 @@
--- The steps of the two transforms as lattice.rs takes them: a stage has m blocks of t + t numbers, a block t butterflies. What they come to is
--- `transform` and `untransform` (proofs/Forward and proofs/Backward).
+-- Nobody needs to believe this file: `forward-transform` (proofs/Forward) and `backward-untransform` (proofs/Backward) say that its steps come to
+-- `transform` and `untransform`. They are those of lattice.rs: a stage has m blocks of t + t numbers, a block t butterflies.
 use mathlib.Core.Path.{_≡_}
 use mathlib.Core.Bool.{true, false}
 use mathlib.Core.List.{List}

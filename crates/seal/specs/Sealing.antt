@@ -1,3 +1,4 @@
+-- Nobody needs to believe this file: the contracts of `keygen`, `enc` and `dec`, proved over it, cite the definitions of crate packets instead.
 -- A sealing from its transformed vectors, and its opening: g is the matrix, a and c are the key's vectors, b and d the payload's.
 use mathlib.Core.Path.{_≡_}
 use mathlib.Core.List.{List, _++_}
