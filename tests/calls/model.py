@@ -1,4 +1,4 @@
-"""Document 01 in Python, on Python's integers and by the definitions; the hashes are Python's hashlib. Nothing of the Rattle code is read.
+"""The rules of docs/SCHEME.md in Python, on Python's integers and by the definitions; the hashes are Python's hashlib. Nothing of the Rattle code is read.
 
 A call is told as its refusal (number, argument, place) or what it gives. Bytes are `bytes`, coefficients are lists.
 """

@@ -16,7 +16,7 @@ def as_bytes(numbers):
 
 
 def coefficients(numbers):
-    """Coefficients in bytes are eight each, the first the lowest: document 01, "Layouts"."""
+    """Coefficients in bytes are eight each, the first the lowest: docs/SCHEME.md, "Layouts"."""
     return b"".join(x.to_bytes(8, "little") for x in numbers)
 
 

@@ -1,4 +1,4 @@
--- Numbers of 64 bits as eight bytes, lowest first: document 01, "Layouts".
+-- Numbers of 64 bits as eight bytes, lowest first: docs/SCHEME.md, "Layouts".
 use mathlib.Core.List.{List}
 use Prim.Native.Nat.{ℕ, _+_, _*_, _/_, _%_}
 use lib.ListN.{length, getD, set}

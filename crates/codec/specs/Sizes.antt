@@ -1,4 +1,4 @@
--- How long keys, packets and what they are made of are: document 01, "Layouts". In Rattle the same names stand in src/lib.rt, in C in galmuriec.h.
+-- How long keys, packets and what they are made of are: docs/SCHEME.md, "Layouts". In Rattle the same names stand in src/lib.rt, in C in galmuriec.h.
 use Prim.Native.Nat.{ℕ}
 
 -- key 32, seed 32

@@ -1,5 +1,5 @@
 -- What a field element stands for. Its Montgomery word is seen by this file alone: everything else speaks of numbers below p.
--- Document 01, "Field".
+-- docs/SCHEME.md, "Field".
 use mathlib.Core.Path.{_≡_}
 use Prim.Native.Nat.{ℕ, _*_, _-_, _%_, _^_, _<_}
 use lib.Dec.{eqb}

@@ -1,4 +1,4 @@
--- The field's size, and Montgomery's reduction as a formula. Document 01, "Field".
+-- The field's size, and Montgomery's reduction as a formula. docs/SCHEME.md, "Field".
 use mathlib.Core.List.{List}
 use Prim.Native.Nat.{ℕ, _+_, _*_, _%_, _^_}
 use Rattle.laws.specs.Lists.{Below}

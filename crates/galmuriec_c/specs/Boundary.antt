@@ -1,5 +1,5 @@
 -- What a caller in another language gets of what a call tells: a returned number, the refusal's record as three numbers, and the lent
--- buffers. Document 01, "When a call says no". CallC, FillsC, FillsTwoC, GivesC and UnsealsC are the calls' promises as a caller in C sees them.
+-- buffers. docs/SCHEME.md, "When a call says no". CallC, FillsC, FillsTwoC, GivesC and UnsealsC are the calls' promises as a caller in C sees them.
 use mathlib.Core.Path.{_≡_}
 use mathlib.Core.List.{List, [], _∷_}
 use Prim.Native.Nat.{ℕ}

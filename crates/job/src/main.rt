@@ -1,4 +1,4 @@
-// Reads one job from standard input and writes its answer to standard output: document 01, "The job program". It reads at most one byte
+// Reads one job from standard input and writes its answer to standard output: docs/SCHEME.md, "The job program". It reads at most one byte
 // more than the longest job has, so any input, even an endless one, ends.
 use job_calls::LONGEST_ANSWER;
 use job_calls::LONGEST_JOB;

@@ -1,4 +1,4 @@
--- Document 01, "The job program": what is answered to the bytes of one job, and what a lent buffer then holds.
+-- docs/SCHEME.md, "The job program": what is answered to the bytes of one job, and what a lent buffer then holds.
 use mathlib.Core.Bool.{Bool, true, false}
 use mathlib.Core.Path.{_≡_}
 use mathlib.Core.List.{List, [], _∷_, _++_}

@@ -1,4 +1,4 @@
--- What `dec` tells and leaves after the judgement: document 01, number 3.
+-- What `dec` tells and leaves after the judgement: docs/SCHEME.md, "When a call says no", number 3.
 use mathlib.Core.List.{List, [], _∷_}
 use Prim.Native.Nat.{ℕ}
 use Rattle.laws.specs.Choices.{pick}

@@ -1,4 +1,4 @@
--- What the contracts of samplers and message lanes are written with, and document 01's points.
+-- What the contracts of samplers and message lanes are written with, and the points of docs/SCHEME.md, "Points at the edges".
 pub mod FourLanes
 pub mod Samplers
 pub mod Messages

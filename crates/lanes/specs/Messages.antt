@@ -1,4 +1,4 @@
--- Document 01, "Message lanes": 32 bytes of payload in 64 coefficients, and back.
+-- docs/SCHEME.md, "Message lanes": 32 bytes of payload in 64 coefficients, and back.
 use mathlib.Core.Bool.{true, false}
 use mathlib.Core.List.{List}
 use Prim.Native.Nat.{ℕ, _+_, _*_, _/_, _%_, _^_}

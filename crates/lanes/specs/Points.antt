@@ -1,4 +1,4 @@
--- Document 01, "Points at the edges": the points with *, as one table and one statement over it.
+-- docs/SCHEME.md, "Points at the edges": the points with *, as one table and one statement over it.
 use mathlib.Core.Bool.{true, false}
 use mathlib.Core.List.{List, [], _∷_, _++_, map}
 use Prim.Native.Nat.{ℕ, _-_}
@@ -39,7 +39,7 @@ answer (draw-short l) = short ones l 0 ∷ []
 answer (times i j) = product (monomial i) (monomial j)
 answer (outputs i ks) = map (λ (k : ℕ). getD (transform (monomial i)) k 0) ks
 
--- what document 01 tells
+-- what the table of docs/SCHEME.md tells
 unfoldable pub points : List (Row Asked)
 points =
     row (bit-of 16383) (0 ∷ [])

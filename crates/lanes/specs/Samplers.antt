@@ -1,4 +1,4 @@
--- Document 01, "Sampling". A sampler takes its bytes from place s of a list on; a ring element has 64 coefficients, a vector of the key 256, the
+-- docs/SCHEME.md, "Sampling". A sampler takes its bytes from place s of a list on; a ring element has 64 coefficients, a vector of the key 256, the
 -- matrix 1,024, and all are one definition over the number of coefficients.
 use mathlib.Core.List.{List}
 use Prim.Native.Nat.{ℕ, zero, suc, _+_, _*_, _-_, _%_}

@@ -126,7 +126,7 @@ extract-embed m bytes =
     unchanged : (k : ℕ) → k < 64 → (getD (embed m) k 0 + getD (zeros 64) k 0) % P ≡ getD (embed m) k 0
     unchanged k h = rw (zero-at k h, add-zero) (mod-eq-of-lt (canonical .each k))
 
--- ---- the bound is sharp: on a payload of zeros the lanes 0, -1, -16382, -1 in coefficient 0 turn bit 2 (document 01's table)
+-- ---- the bound is sharp: on a payload of zeros the lanes 0, -1, -16382, -1 in coefficient 0 turn bit 2 (docs/SCHEME.md, "Points at the edges")
 unfoldable pub turning : ℕ → ℕ
 turning zero = placed 1 65535 49152 65534
 turning (suc k) = 0

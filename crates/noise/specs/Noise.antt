@@ -1,4 +1,5 @@
--- Document 01, "Keys and packets": how large the lanes of a coefficient are, and what reading a message through noise means.
+-- docs/SCHEME.md, "The three demands" and "Keys and packets": how large the lanes of a coefficient are, and what reading a message through noise
+-- means.
 use mathlib.Core.Path.{_≡_}
 use mathlib.Core.List.{List}
 use Prim.Native.Nat.{ℕ, _%_, _^_, _≤_, _<_}

@@ -1,4 +1,4 @@
--- Keys and packets have the sizes of document 01, with canonical coefficients.
+-- Keys and packets have the sizes of docs/SCHEME.md, "Layouts", with canonical coefficients.
 use mathlib.Core.Path.{_≡_, _∙_}
 use mathlib.Core.List.{List, _++_}
 use Prim.Native.Nat.{ℕ, _+_, _*_, _≤_, _<_}

@@ -1,4 +1,4 @@
--- Document 01, "Layouts": a public key is its seed, then ga in eight bytes a coefficient. A ciphertext's bytes are those of its coefficients,
+-- docs/SCHEME.md, "Layouts": a public key is its seed, then ga in eight bytes a coefficient. A ciphertext's bytes are those of its coefficients,
 -- `bytes` and `words` of codec; a secret key is bytes already.
 use mathlib.Core.List.{List, _++_}
 use Prim.Native.Nat.{ℕ}

@@ -1,4 +1,4 @@
--- Document 01, "Keys and packets" and "Layouts", and demand 3 about them.
+-- docs/SCHEME.md, "Keys and packets" and "Layouts", and demand 3 about them.
 pub mod Parameters
 pub mod Packets
 pub mod Layout

@@ -1,4 +1,4 @@
--- Document 01, "Keys and packets", line by line, on lists of numbers. A vector or matrix of ring elements is one flat list, row by row: element i
+-- docs/SCHEME.md, "Keys and packets", line by line, on lists of numbers. A vector or matrix of ring elements is one flat list, row by row: element i
 -- stands from 64 * i on. What depends on the short sampler takes as `count` how a byte's bits are counted; the Rust's is `ones`.
 use mathlib.Core.Bool.{Bool, true, false}
 use mathlib.Core.List.{List, [], _∷_, _++_}

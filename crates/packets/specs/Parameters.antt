@@ -1,4 +1,4 @@
--- How long the parts of keys and packets are, and how much is drawn for them: document 01, "Keys and packets".
+-- How long the parts of keys and packets are, and how much is drawn for them: docs/SCHEME.md, "Keys and packets".
 use Prim.Native.Nat.{ℕ}
 
 -- a vector is four ring elements, the matrix 16

@@ -1,4 +1,4 @@
--- A call is refused exactly when document 01's table says, by the number, argument and place that it says, for any list of arguments: the
+-- A call is refused exactly when the table of docs/SCHEME.md says, by the number, argument and place that it says, for any list of arguments: the
 -- statements are specs/Exactly. What is said of `tested` holds for any list of tests, so that a further test needs no proof of its own.
 use mathlib.Core.Bool.{Bool, true, false}
 use mathlib.Core.Path.{_≡_, refl, sym, ap, _∙_, subst}

@@ -1,4 +1,4 @@
--- The inverse in the document's terms: what the field answers is what is told, and it times the number is 1.
+-- The inverse in the terms of docs/SCHEME.md: what the field answers is what is told, and it times the number is 1.
 use mathlib.Core.Path.{_≡_, refl, sym, ap, _∙_}
 use mathlib.Core.List.{[], _∷_}
 use Prim.Native.Nat.{ℕ, _*_, _-_, _%_, _^_, _<_}

@@ -1,5 +1,5 @@
--- The document's number and values for each case of the answers, and the one promise of all public calls: what comes back, and what the lent
--- buffers hold at the end.
+-- The number and values of docs/SCHEME.md, "When a call says no", for each case of the answers, and the one promise of all public calls: what comes
+-- back, and what the lent buffers hold at the end.
 use mathlib.Core.Path.{_≡_}
 use mathlib.Core.List.{List, [], _∷_}
 use Prim.Native.Nat.{ℕ}

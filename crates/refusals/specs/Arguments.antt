@@ -1,4 +1,4 @@
--- What a call may ask of an argument, one constructor a kind, and what is read off each kind: document 01, "When a call says no". A further
+-- What a call may ask of an argument, one constructor a kind, and what is read off each kind: docs/SCHEME.md, "When a call says no". A further
 -- kind is one constructor and one line in each function below.
 use mathlib.Core.Bool.{Bool, true}
 use mathlib.Core.Path.{_≡_}

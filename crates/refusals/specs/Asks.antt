@@ -1,4 +1,4 @@
--- What each public call asks of its arguments, inputs before outputs, one line a call: document 01, "When a call says no". A list of numbers
+-- What each public call asks of its arguments, inputs before outputs, one line a call: docs/SCHEME.md, "When a call says no". A list of numbers
 -- stands for an argument whose coefficients must be canonical; one that is not looked into stands by its length alone.
 use mathlib.Core.List.{List, [], _∷_}
 use Prim.Native.Nat.{ℕ}

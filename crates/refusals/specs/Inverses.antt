@@ -1,4 +1,4 @@
--- What asking for an inverse tells, where the number is canonical: document 01, number 4.
+-- What asking for an inverse tells, where the number is canonical: docs/SCHEME.md, "When a call says no", number 4.
 use mathlib.Core.List.{[], _∷_}
 use Prim.Native.Nat.{ℕ}
 use Rattle.field.specs.Element.{num, inverted}

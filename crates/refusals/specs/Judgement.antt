@@ -1,4 +1,4 @@
--- How any call is judged, from its input lists and the lengths of its outputs: document 01, "When a call says no". A call is described by the
+-- How any call is judged, from its input lists and the lengths of its outputs: docs/SCHEME.md, "When a call says no". A call is described by the
 -- list of its arguments, inputs before outputs.
 use mathlib.Core.Bool.{Bool, true, false}
 use mathlib.Core.List.{List, [], _∷_}

@@ -1,5 +1,5 @@
 // Refusals: what a call says when it says no, the steps that decide it, and one judging function for each shape of an argument list, for any
-// sizes. Document 01, "When a call says no"; which call has which arguments is the table specs/Asks.
+// sizes. docs/SCHEME.md, "When a call says no"; which call has which arguments is the table specs/Asks.
 ghost use mathlib.Core.Path.{_≡_};
 ghost use mathlib.Core.List.{[], _∷_};
 ghost use Rattle.codec.specs.Layout.{words};
@@ -41,7 +41,7 @@ pub enum GivenTwo {
     NeitherGiven(Refusal),
 }
 
-// A refusal as the document writes it.
+// A refusal as docs/SCHEME.md writes it.
 pub struct Record {
     pub number: u8,
     pub argument: u8,

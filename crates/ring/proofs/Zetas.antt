@@ -35,7 +35,7 @@ pub zeta-word-number : (k : ℕ) → reduced (zeta-word k) ≡ zeta k % P
 unfolding zeta-word
 zeta-word-number k = word-number (zeta k)
 
--- document 01's facts
+-- the facts of docs/SCHEME.md, "Transform"
 pub psi-squared : psi * psi % P ≡ 8
 psi-squared = refl
 

@@ -1,5 +1,5 @@
 -- Ring elements as lists of 64 canonical numbers: sums, differences, pointwise products, and the product modulo X^64 + 1 and p.
--- Document 01, "Transform" and "Carried over".
+-- docs/SCHEME.md, "Transform".
 use mathlib.Core.Bool.{true, false}
 use mathlib.Core.List.{List}
 use Prim.Native.Nat.{ℕ, suc, _+_, _*_, _-_, _%_}

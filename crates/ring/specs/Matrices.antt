@@ -1,5 +1,5 @@
--- Vectors and matrices of ring elements, each one flat list, row by row: element i stands from 64 * i on. Document 01, "Layouts" and the
--- matrix product of "Order of the port", over any height, inner size and width.
+-- Vectors and matrices of ring elements, each one flat list, row by row: element i stands from 64 * i on. docs/SCHEME.md, "Layouts" and "Transform":
+-- their product, over any height, inner size and width.
 use mathlib.Core.List.{List}
 use Prim.Native.Nat.{ℕ, _+_, _*_, _/_, _%_}
 use lib.ListN.{getD}

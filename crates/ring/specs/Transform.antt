@@ -1,4 +1,4 @@
--- Document 01, "Transform": the 64 values of a polynomial, and the polynomial of 64 values. A polynomial is the list of its coefficients,
+-- docs/SCHEME.md, "Transform": the 64 values of a polynomial, and the polynomial of 64 values. A polynomial is the list of its coefficients,
 -- lowest first; numbers stand for field elements.
 use mathlib.Core.List.{List, [], _∷_}
 use Prim.Native.Nat.{ℕ, _+_, _*_, _-_, _^_, _/_, _%_}

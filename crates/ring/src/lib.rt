@@ -17,7 +17,7 @@ ghost use Rattle.ring.specs.Matrices.{cell, flat, transforms, dot, matri
 ghost use Rattle.ring.specs.Stages.{zeta-word, sum-of, difference-of, sum-back, difference-back, Butterflied};
 ghost use Rattle.ring.specs.Stages.{forward, backward, unscaled, scaled};
 
-// The first table with its rule, as document 01 asks for it; the transforms read its words.
+// The first table with its rule, as docs/SCHEME.md, "Transform", states it; the transforms read its words.
 pub fn powers_of_psi_bitreversed() -> [u64; 64]
     ensures { λ r. ⌜ r ≡ tab 64 zeta ⌝ }
 {

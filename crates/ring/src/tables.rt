@@ -1,4 +1,4 @@
-// The tables of the transforms: document 01, "Transform". The contracts of lib.rt tell the rule of each.
+// The tables of the transforms: docs/SCHEME.md, "Transform". The contracts of lib.rt tell the rule of each.
 
 // psi to the power brv(k), k from 0 to 63. Entry 0 of no table is read.
 pub const POWERS_OF_PSI_BITREVERSED: [u64; 64] = [

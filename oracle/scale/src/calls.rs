@@ -299,7 +299,7 @@ impl Call {
             .collect();
         let Some(results) = operation(word).answer(&operands) else {
             let Some(refusal) = nothing else {
-                // the paper knows no refusal here, so nothing can be compared
+                // the table knows no refusal here, so nothing can be compared
                 eprintln!("{}: the published Rust gives no answer", self.name);
                 std::process::exit(2);
             };

@@ -1,4 +1,4 @@
-//! Jobs: document 01, "The job program", by the archive's `galmuriec_job` and by the program itself.
+//! Jobs: docs/SCHEME.md, "The job program", by the archive's `galmuriec_job` and by the program itself.
 
 use std::io::{self, Read, Write};
 use std::process::{Command, Stdio};

@@ -1,4 +1,4 @@
-//! Compares the archive of the public calls with the published Rust and with document 01's table of refusals, call by call in one process.
+//! Compares the archive of the public calls with the published Rust and with the table of refusals of docs/SCHEME.md, call by call in one process.
 
 mod archive;
 mod calls;

@@ -1,4 +1,4 @@
-//! Document 01's table "When a call says no", written from the paper: shapes of arguments, refusals, which of them is given.
+//! The table of docs/SCHEME.md, "When a call says no", written once more: shapes of arguments, refusals, which of them is given.
 
 use crate::lent::Lent;
 

@@ -1,4 +1,4 @@
--- `judge_enc` judges as the document does: its steps are those of `judged`.
+-- `judge_enc` judges as docs/SCHEME.md says: its steps are those of `judged`.
 use borrow.Author.Needs.{needs}
 use Rattle.refusals.specs.Judgement.{judged}
 use Rattle.kem_calls.proofs.judge_enc.Statement.{statement}

@@ -1,4 +1,4 @@
--- `judge_sampling` judges bytes and a buffer as the document does: its steps are those of `judged`.
+-- `judge_sampling` judges bytes and a buffer as docs/SCHEME.md says: its steps are those of `judged`.
 use borrow.Author.Needs.{needs}
 use Rattle.refusals.specs.Judgement.{judged}
 use Rattle.refusals.proofs.judge_sampling.Statement.{statement}

@@ -1,4 +1,4 @@
--- `judge_stream` judges a message and an output of at most so many bytes as the document does: its steps are those of `judged`.
+-- `judge_stream` judges a message and an output of at most so many bytes as docs/SCHEME.md says: its steps are those of `judged`.
 use borrow.Author.Needs.{needs}
 use Rattle.refusals.specs.Judgement.{judged}
 use Rattle.refusals.proofs.judge_stream.Statement.{statement}

@@ -1,4 +1,4 @@
--- `judge_values` judges two field values as the document does: its steps are those of `judged`.
+-- `judge_values` judges two field values as docs/SCHEME.md says: its steps are those of `judged`.
 use borrow.Author.Needs.{needs}
 use Rattle.refusals.specs.Judgement.{judged}
 use Rattle.refusals.proofs.judge_values.Statement.{statement}

@@ -1,4 +1,4 @@
--- `record` writes each case as the document does.
+-- `record` writes each case as docs/SCHEME.md does.
 use borrow.Author.Needs.{needs}
 use mathlib.Core.Path.{sym, ap, _∙_}
 use Rattle.refusals.specs.Answers.{paper}
