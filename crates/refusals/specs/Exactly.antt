@@ -1,5 +1,5 @@
--- The document's table, numbers 1 and 2, which every call is judged by: when exactly each is told, and when neither is. proofs/Exactly proves them;
--- the whole table, about what the calls tell, is specs/Table of crate demands.
+-- docs/SCHEME.md, "When a call says no", numbers 1 and 2, which every call is judged by: when exactly each is told, and when neither is.
+-- proofs/Exactly proves them; the whole table, about what the calls tell, is specs/Table of crate demands.
 use mathlib.Core.Bool.{true, false}
 use mathlib.Core.Path.{_≡_}
 use mathlib.Core.List.{List}
