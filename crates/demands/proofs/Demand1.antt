@@ -1,5 +1,6 @@
 -- DEMAND 1: `demand-1`. What a call promises is a `Call` of refusals, and the table holds of every such call.
 use denote.Ref.{now}
+use Rattle.refusals.proofs as refusals
 use Rattle.field_calls.proofs as field
 use Rattle.ring_calls.proofs as ring
 use Rattle.lane_calls.proofs as lane
@@ -44,6 +45,12 @@ answered = record {
   dec-numbers = record { ends = kem.dec_numbers.Met.met; demands-nothing = λ κs lent. tt };
   clear = record { ends = kem.clear.Met.met; demands-nothing = λ κs lent. tt };
   job = record { ends = job.job.Met.met; demands-nothing = λ κs lent. tt };
+  refusal-record = record { ends = refusals.Refusal.record.Met.met; demands-nothing = λ κs lent. tt };
+  answer-unless = record { ends = refusals.Answer.unless.Met.met; demands-nothing = λ κs lent. tt };
+  answer-sized = record { ends = refusals.Answer.sized.Met.met; demands-nothing = λ κs lent. tt };
+  answer-value = record { ends = refusals.Answer.value.Met.met; demands-nothing = λ κs lent. tt };
+  answer-numbers = record { ends = refusals.Answer.numbers.Met.met; demands-nothing = λ κs lent. tt };
+  answer-packed = record { ends = refusals.Answer.packed.Met.met; demands-nothing = λ κs lent. tt };
 }
 
 refused : Refused

@@ -11,6 +11,7 @@ use Rattle.refusals.specs.Judgement.{sign}
 use Rattle.refusals.specs.Answers.{said, told}
 use Rattle.refusals.specs.Asks as asks
 use Rattle.job_calls.specs.Jobs.{ten, longest-answer}
+use Rattle.refusals.proofs as refusals
 use Rattle.field_calls.proofs as field
 use Rattle.ring_calls.proofs as ring
 use Rattle.lane_calls.proofs as lane
@@ -60,6 +61,13 @@ pub record Answered : Type 2 where
   pub dec-numbers : Answers _ kem.dec_numbers.Kinds.ps kem.dec_numbers.Reads.Asked kem.dec_numbers.Statement.statement
   pub clear : Answers _ kem.clear.Kinds.ps kem.clear.Reads.Asked kem.clear.Statement.statement
   pub job : Answers _ job.job.Kinds.ps job.job.Reads.Asked job.job.Statement.statement
+  -- and so are the methods of the types that the calls answer with
+  pub refusal-record : Answers _ refusals.Refusal.record.Kinds.ps refusals.Refusal.record.Reads.Asked refusals.Refusal.record.Statement.statement
+  pub answer-unless : Answers _ refusals.Answer.unless.Kinds.ps refusals.Answer.unless.Reads.Asked refusals.Answer.unless.Statement.statement
+  pub answer-sized : Answers _ refusals.Answer.sized.Kinds.ps refusals.Answer.sized.Reads.Asked refusals.Answer.sized.Statement.statement
+  pub answer-value : Answers _ refusals.Answer.value.Kinds.ps refusals.Answer.value.Reads.Asked refusals.Answer.value.Statement.statement
+  pub answer-numbers : Answers _ refusals.Answer.numbers.Kinds.ps refusals.Answer.numbers.Reads.Asked refusals.Answer.numbers.Statement.statement
+  pub answer-packed : Answers _ refusals.Answer.packed.Kinds.ps refusals.Answer.packed.Reads.Asked refusals.Answer.packed.Statement.statement
 
 -- A refusal gives number, argument and place, exactly when the table says, and no lent buffer has changed. The first thing lent is `.0`, the second
 -- `.1 .0`, the third `.1 .1 .0`; what each call asks of them is a line of specs/Asks of crate refusals
