@@ -11,8 +11,8 @@
  *   p is GALMURIEC_P. A number is canonical if it is below p. A ring element is 64 canonical numbers.
  *
  * What comes back
- *   A call that can refuse returns the refusal's number, or 0 where it is done. It always writes *refusal: number,
- *   argument and place of the refusal, or three zeros. docs/SCHEME.md, "When a call says no":
+ *   Every call but galmuriec_field_new and galmuriec_job returns the refusal's number, or 0 where it is done, and always writes
+ *   *refusal: number, argument and place of the refusal, or three zeros. docs/SCHEME.md, "When a call says no":
  *
  *   number                          | exactly when                                         | argument         | place
  *   1 GALMURIEC_LENGTH              | a count is not the allowed one                       | lowest such      | 0
@@ -26,7 +26,7 @@
  *   placed by their index, eight bytes each. The lowest number that applies is given: all counts are looked at before any
  *   number. Below, each call names the refusals that it can give.
  *
- * After a refusal every buffer, and *result, holds what it held
+ * After a refusal every buffer, and *result, holds what it held (galmuriec_job writes its refusal as its answer)
  *   Where galmuriec_dec refuses, the shared key's buffer still has what was in it: last hour's key, if the same buffer was lent
  *   an hour ago. A caller who ignores the returned number goes on with that old key. Guard against it twice:
  *   - Look at the returned number before you look at a buffer. Every call that can refuse is marked GALMURIEC_MUST_CHECK: the
