@@ -16,13 +16,12 @@ use Rattle.refusals.specs.Answers.{said, into, left, Call}
 use Rattle.refusals.specs.declared.Answer.{Answer}
 use Rattle.refusals.specs.declared.Answer.the-variants.{Done, Refused}
 use Rattle.refusals.specs.declared.Refusal.the-variants.{Differs}
-use Rattle.refusals.proofs.Calls.{as-each}
-use Rattle.packets.specs.Packets.{PublicKey, Opened, key, differs, opens, key-or, payload, public-key, keygen, enc, dec}
+use Rattle.packets.specs.Packets.{sealing, PublicKey, Opened, key, differs, opens, key-or, payload, public-key, keygen, enc, dec}
 use Rattle.packets.specs.Layout.{public-bytes, public-of}
 use Rattle.packets.specs.Opening.{Opens, Quiet, Opening as Of-dec}
 use Rattle.hash.specs.Fips202.{sha3-256}
 use Rattle.packets.proofs.Opening.{opening, quiet-read}
-use Rattle.packets.proofs.Delivery.{ciphertext-canonical, keygen-public, numbers-open, words-back, bytes-open}
+use Rattle.packets.proofs.Delivery.{secret-key-is-bytes, ciphertext-canonical, keygen-public, numbers-open, words-back, bytes-open}
 use Rattle.kem_calls.specs.Verdict.{verdict}
 use Rattle.demands.specs.Demand3.{Payload, Opening, Demand3}
 use Rattle.demands.proofs.Table.{gives-refuses}
@@ -112,11 +111,34 @@ own-key : (r secret public : List ℕ) → secret ≡ keygen ones r .secret → 
     → public ≡ public-bytes (public-key ones secret)
 own-key r secret public e f = f ∙ rw (e, ← keygen-public ones r)
 
+own-size : (r secret : List ℕ) → secret ≡ keygen ones r .secret → length secret ≡ secret-key-bytes
+unfolding keygen
+own-size r secret e = ap length e ∙ secret-key-is-bytes r .size
+
+-- what `enc` writes, by its definition
+sealed-is : (pk : PublicKey) (r ct : List ℕ) → ct ≡ enc ones pk r .ciphertext → ct ≡ sealing ones pk (payload r)
+unfolding enc
+sealed-is pk r ct e = e
+
+sealed-bytes : (pk : PublicKey) (r ct : List ℕ) → ct ≡ bytes (enc ones pk r .ciphertext) → ct ≡ bytes (sealing ones pk (payload r))
+unfolding enc
+sealed-bytes pk r ct e = e
+
+shared-is-hash : (pk : PublicKey) (r shared : List ℕ) → shared ≡ enc ones pk r .shared → shared ≡ sha3-256 (payload r)
+unfolding enc
+shared-is-hash pk r shared e = e
+
 pub demand-3 : Demand3
 demand-3 = record {
   dec = λ o a b c d. opened-call _ _ _ _ _ _ (a, ((b, c), (d, record {}))) (o .allowed) (c .size);
   dec-numbers = λ o a c d. opened-call _ _ _ _ _ _ (a, (c, (d, record {}))) (o .allowed) (c .size);
   small = quiet-read ones;
+  seals = λ e done.
+      let wrote = done-clean _ _ _ _ done (e .allowed) .1 in
+      (shared-is-hash _ _ _ (first-buffer _ _ wrote), sealed-bytes _ _ _ (second-buffer _ _ wrote));
+  seals-numbers = λ e done.
+      let wrote = done-clean _ _ _ _ done (e .allowed) .1 in
+      (shared-is-hash _ _ _ (first-buffer _ _ wrote), sealed-is _ _ _ (second-buffer _ _ wrote));
   arrives = λ e d done own size same room quiet.
       let wrote = done-clean _ _ _ _ done (e .allowed) .1 in
       let packet = same ∙ second-buffer _ _ wrote in
@@ -130,5 +152,5 @@ demand-3 = record {
       (numbers-key _ _ _ _ _ size own (first-buffer _ _ wrote) quiet packet);
   own-public-key = λ k d.
       let done = done-clean _ _ _ _ d (k .allowed) in
-      (as-each _ (done .0) .1 .0, own-key _ _ _ (first-buffer _ _ (done .1)) (second-buffer _ _ (done .1)));
+      (own-size _ _ (first-buffer _ _ (done .1)), own-key _ _ _ (first-buffer _ _ (done .1)) (second-buffer _ _ (done .1)));
 }

@@ -1,9 +1,8 @@
 -- What a promise says of a call once its arguments are as asked, or once it is done.
-use mathlib.Core.Path.{_≡_, refl, sym, ap, _∙_}
+use mathlib.Core.Path.{_≡_, sym, ap, _∙_}
 use mathlib.Core.List.{List, [], _∷_}
 use mathlib.Core.Logic.{inl, inr}
 use Prim.Native.Nat.{ℕ}
-use native.Mathlib.Omega.{arith}
 use lib.ListN.{getD}
 use Rattle.refusals.specs.Arguments.{Asked, Each}
 use Rattle.refusals.specs.Judgement.{Told, No, sign, refuses, fine, then, judged}
@@ -11,23 +10,17 @@ use Rattle.refusals.specs.Exactly.{Clean, OneOfThree}
 use Rattle.refusals.specs.Answers.{said, Lent, into, left, Call}
 use Rattle.refusals.specs.declared.Answer.{Answer}
 use Rattle.refusals.specs.declared.Answer.the-variants.{Done, Refused}
-use Rattle.refusals.specs.declared.Refusal.the-variants.{Length, Coefficient, Differs, InverseOfZero, NoJob}
+use Rattle.refusals.specs.declared.Refusal.the-variants.{Differs}
 use Rattle.refusals.proofs.Exactly.{exactly-0, one-of-three}
-use Rattle.refusals.proofs.Calls.{each-clean}
-use Rattle.demands.proofs.Table.{number-of, gives-refuses}
+use Rattle.refusals.proofs.Calls.{said-one, each-clean}
+use Rattle.demands.proofs.Table.{gives-refuses}
 
 -- ---- answers, from what they tell
 pub said-done : (r : Answer) → said r ≡ fine → r ≡ Done
-said-done Done e = refl
-said-done (Refused n) e = gives-refuses [] _ (sym e)
+said-done r = said-one r Done
 
 pub said-differs : (r : Answer) → said r ≡ refuses (sign 3 0 0) → r ≡ Refused Differs
-said-differs Done e = gives-refuses [] (sign 3 0 0) e
-said-differs (Refused (Length a)) e = absurd (omega (arith, ap number-of e))
-said-differs (Refused (Coefficient a i)) e = absurd (omega (arith, ap number-of e))
-said-differs (Refused Differs) e = refl
-said-differs (Refused InverseOfZero) e = absurd (omega (arith, ap number-of e))
-said-differs (Refused NoJob) e = absurd (omega (arith, ap number-of e))
+said-differs r = said-one r (Refused Differs)
 
 -- ---- buffers, one by one
 pub first-buffer : (s t : List (List ℕ)) → s ≡ t → getD s 0 [] ≡ getD t 0 []

@@ -1,4 +1,5 @@
 -- The proofs of the three demands.
+pub mod Answered
 pub mod Table
 pub mod Causes
 pub mod Jobs

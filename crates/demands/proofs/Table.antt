@@ -1,4 +1,4 @@
--- The table of refusals holds of whatever a contract allows: `the-table` for any call, and the causes of numbers 3, 4 and 5.
+-- The table of refusals holds of whatever a contract allows: `the-table` for any call, from the causes of its numbers 3 and 4.
 use mathlib.Core.Path.{_≡_, refl, sym, ap, _∙_, subst}
 use mathlib.Core.List.{List}
 use mathlib.Core.Logic.{_↔_, _⊎_, inl, inr}
@@ -8,7 +8,7 @@ use Rattle.refusals.specs.Arguments.{Asked}
 use Rattle.refusals.specs.Judgement.{Told, No, sign, gives, refuses, fine, then, judged}
 use Rattle.refusals.specs.Exactly.{Clean, OneOfThree}
 use Rattle.refusals.specs.Answers.{Lent, olds, left, Call}
-use Rattle.refusals.proofs.Exactly.{exactly-0, exactly-1, exactly-2, one-of-three}
+use Rattle.refusals.proofs.Exactly.{sign-of, exactly-0, exactly-1, exactly-2, one-of-three}
 use Rattle.refusals.proofs.Calls.{left-no}
 use Rattle.demands.specs.Table.{OfTable, Tabled, never}
 
@@ -17,14 +17,8 @@ abbrev pub number-of : Told → ℕ
 number-of (gives xs) = 0
 number-of (refuses n) = n .number
 
--- the refusal that is told
-no-of : Told → No
-no-of (gives xs) = sign 0 0 0
-no-of (refuses n) = n
-
 same-no : (m n : No) → refuses m ≡ refuses n → m ≡ n
-unfolding no-of
-same-no m n e = ap no-of e
+same-no m n e = ap sign-of e
 
 -- ---- what is told where nothing is wrong with the arguments: the causes of numbers 3 and 4, and no other refusal
 pub record Late (args : List Asked) (Differs OfZero : Type 0) (given : Told) : Type 0 where

@@ -1,4 +1,5 @@
 -- The outcomes of each public call, one line a call.
+use Rattle.refusals.proofs as refusals
 use Rattle.field_calls.proofs as field
 use Rattle.ring_calls.proofs as ring
 use Rattle.lane_calls.proofs as lane
@@ -6,6 +7,9 @@ use Rattle.hash_calls.proofs as hash
 use Rattle.kem_calls.proofs as kem
 use Rattle.job_calls.proofs as job
 use Rattle.demands.specs.Outcomes.{Outcome}
+
+abbrev pub Refusal-record : Type 0
+Refusal-record = Outcome _ refusals.Refusal.record.Kinds.ps refusals.Refusal.record.Kinds.r refusals.Refusal.record.Reads.Learnt
 
 abbrev pub Field-new : Type 0
 Field-new = Outcome _ field.new.Kinds.ps field.new.Kinds.r field.new.Reads.Learnt

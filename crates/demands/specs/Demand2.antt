@@ -26,7 +26,7 @@ pub record Demand2 : Type 0 where
       → now (t .lent .0) ≡ now (u .after .0) → (u .answer ≡ Done) × (t .answer ≡ Done) × (now (t .after .0) ≡ now (u .lent .0))
   -- (as two that do nothing would; but output k is the polynomial's value at psi^(2·brv(k)+1))
   pub values : (t : Coset-ntt-noswap-64) → Coefficients 64 (now (t .lent .0)) → (k : ℕ) → k < 64
-      → getD (now (t .after .0)) k 0 ≡ value (psi ^ (2 * brv k + 1) % P) (now (t .lent .0))
+      → (t .answer ≡ Done) × (getD (now (t .after .0)) k 0 ≡ value (psi ^ (2 * brv k + 1) % P) (now (t .lent .0)))
   -- and the ring product is multiplication modulo X^64 + 1 and p: what the plain product leaves, and nothing else is left
   pub product-is-remainder : (o : Ring-mul) → Coefficients 64 (now (o .lent .0)) → Coefficients 64 (now (o .lent .1 .0))
       → size (o .lent .1 .1 .0) ≡ 64 → (o .answer ≡ Done) × Remainder (now (o .lent .0)) (now (o .lent .1 .0)) (now (o .after .1 .1 .0))

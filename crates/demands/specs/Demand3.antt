@@ -6,7 +6,7 @@ use mathlib.Core.List.{List}
 use mathlib.Core.Logic.{_↔_}
 use Prim.Native.Nat.{ℕ}
 use denote.Ref.{now}
-use Rattle.codec.specs.Layout.{words}
+use Rattle.codec.specs.Layout.{words, bytes}
 use Rattle.codec.specs.Sizes.{secret-key-bytes, ciphertext-numbers, ciphertext-bytes, shared-key-bytes}
 use Rattle.field.specs.Field.{Coefficients}
 use Rattle.hash.specs.Fips202.{sha3-256}
@@ -15,8 +15,8 @@ use Rattle.refusals.specs.declared.Answer.{Answer}
 use Rattle.refusals.specs.declared.Answer.the-variants.{Done, Refused}
 use Rattle.refusals.specs.declared.Refusal.the-variants.{Differs}
 use Rattle.packets.specs.Parameters.{payload-bytes}
-use Rattle.packets.specs.Packets.{Bytes, payload, public-key}
-use Rattle.packets.specs.Layout.{public-bytes}
+use Rattle.packets.specs.Packets.{Bytes, payload, public-key, sealing}
+use Rattle.packets.specs.Layout.{public-bytes, public-of}
 use Rattle.packets.specs.Opening.{Opens, Quiet, Read}
 use Rattle.demands.specs.Outcomes.{size}
 use Rattle.demands.specs.Calls.{Keygen, Enc, Enc-numbers, Dec, Dec-numbers}
@@ -47,6 +47,13 @@ pub record Demand3 : Type 0 where
   -- the second condition always holds if each coefficient of b·c - d·a is congruent modulo p to e0 + 2^16 e1 + 2^32 e2 + 2^48 e3 with every e
   -- from -16381 to 16381
   pub small : (sk m : List ℕ) → Bytes payload-bytes m → Quiet ones sk m → Read ones sk m
+  -- `enc` writes the sealing of its payload under the public key that it is lent, and the payload's SHA3-256
+  pub seals : (e : Enc) → e .answer ≡ Done
+      → (now (e .after .1 .1 .0) ≡ sha3-256 (payload (now (e .lent .1 .0))))
+      × (now (e .after .1 .1 .1 .0) ≡ bytes (sealing ones (public-of (now (e .lent .0))) (payload (now (e .lent .1 .0)))))
+  pub seals-numbers : (e : Enc-numbers) → e .answer ≡ Done
+      → (now (e .after .1 .1 .0) ≡ sha3-256 (payload (now (e .lent .1 .0))))
+      × (now (e .after .1 .1 .1 .0) ≡ sealing ones (public-of (now (e .lent .0))) (payload (now (e .lent .1 .0))))
   -- so what `enc` writes for the key opens, with such noise, to the shared key that it gave its sealer,
   pub arrives : (e : Enc) (d : Dec) → e .answer ≡ Done → now (e .lent .0) ≡ public-bytes (public-key ones (now (d .lent .0)))
       → size (d .lent .0) ≡ secret-key-bytes → now (d .lent .1 .0) ≡ now (e .after .1 .1 .1 .0) → size (d .lent .1 .1 .0) ≡ shared-key-bytes
@@ -58,4 +65,4 @@ pub record Demand3 : Type 0 where
       → (d .answer ≡ Done) × (now (d .after .1 .1 .0) ≡ now (e .after .1 .1 .0))
   -- and `keygen` writes a secret key and that key's own public key
   pub own-public-key : (k : Keygen) → k .answer ≡ Done
-      → (size (k .lent .1 .0) ≡ secret-key-bytes) × (now (k .after .1 .1 .0) ≡ public-bytes (public-key ones (now (k .after .1 .0))))
+      → (size (k .after .1 .0) ≡ secret-key-bytes) × (now (k .after .1 .1 .0) ≡ public-bytes (public-key ones (now (k .after .1 .0))))

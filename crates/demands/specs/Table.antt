@@ -40,11 +40,11 @@ Differs sk ct = sealing ones (public-key ones sk) (extracted ones sk ct) ≢ ct
 
 -- ---- number 5, which a job is judged by first
 -- n bytes, the first of them t
-abbrev pub Job : ℕ → ℕ → List ℕ → Type 0
-Job t n s = (length s ≡ n) × (getD s 0 0 ≡ t)
+abbrev pub IsJob : ℕ → ℕ → List ℕ → Type 0
+IsJob t n s = (length s ≡ n) × (getD s 0 0 ≡ t)
 
 -- it is empty, its first byte is not 1, 2 or 3, or its length is wrong
 pub record NoJob (s : List ℕ) : Type 0 where
-  pub no-keygen : Job 1 keygen-job-bytes s → ⊥
-  pub no-enc : Job 2 enc-job-bytes s → ⊥
-  pub no-dec : Job 3 dec-job-bytes s → ⊥
+  pub no-keygen : IsJob 1 keygen-job-bytes s → ⊥
+  pub no-enc : IsJob 2 enc-job-bytes s → ⊥
+  pub no-dec : IsJob 3 dec-job-bytes s → ⊥

@@ -13,13 +13,13 @@ use Rattle.refusals.specs.Judgement.{sign}
 use Rattle.job_calls.specs.Jobs.{keygen-job-bytes, enc-job-bytes, dec-job-bytes, is-job, ten, Writes}
 use Rattle.job_calls.specs.Jobs.{job-answer, keygen-answer, enc-answer, dec-answer}
 
-both-true : (a b : Bool) → pick a b false ≡ true → a ≡ true
-both-true true b e = refl
-both-true false b e = e
+pub both-true : (a b : Bool) → pick a b false ≡ true → (a ≡ true) × (b ≡ true)
+both-true true b e = (refl, e)
+both-true false b e = let z : _≡_ {A = Bool} false true = e in (z, cc)
 
 pub job-size : (b : Bool) (t n : ℕ) (s : List ℕ) → b ≡ is-job t n s → b ≡ true → length s ≡ n
 unfolding is-job
-job-size b t n s e f = eqb-true (length s) n (both-true (eqb (length s) n) (eqb (getD s 0 0) t) (sym e ∙ f))
+job-size b t n s e f = eqb-true (length s) n (both-true (eqb (length s) n) (eqb (getD s 0 0) t) (sym e ∙ f) .0)
 
 -- ---- what was written is the answer, by the kind that the job is of
 module _ (s : List ℕ) (n : ℕ) (old new : List ℕ) where

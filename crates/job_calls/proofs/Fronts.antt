@@ -93,7 +93,7 @@ pub writes-ten : (n a i k : ℕ) (r : No) (place old new : List ℕ) → sign n 
 writes-ten n a i k r place old new e f w = subst (λ (l : List ℕ). Writes l k old new) (ten-bytes n a i r place e f) w
 
 -- what is given, where nothing is told against it, is what was filled
-two-filled : (t u : Told) (b b′ : Lent) (new new′ : List ℕ) → u ≡ t → new ∷ new′ ∷ [] ≡ left-of t (b ∷ b′ ∷ [])
+pub two-filled : (t u : Told) (b b′ : Lent) (new new′ : List ℕ) → u ≡ t → new ∷ new′ ∷ [] ≡ left-of t (b ∷ b′ ∷ [])
     → written u (new ++ new′) ≡ written t (b .result ++ b′ .result)
 unfolding written
 two-filled (gives xs) u b b′ new new′ e f = rw e (ap (λ (l : List (List ℕ)). 0 ∷ (getD l 0 [] ++ getD l 1 [])) f)
@@ -107,13 +107,13 @@ writes-two args given u first first′ result result′ filled filled′ answer 
     rw (e, ← same) w
 
 -- the same where one buffer was filled, and by an opening: where there is no key its old content is not told
-key-written : (t : Told) (o : Opened) (a b : List ℕ) → written (then t (verdict o)) (key-or o a) ≡ written (then t (verdict o)) (key-or o b)
+pub key-written : (t : Told) (o : Opened) (a b : List ℕ) → written (then t (verdict o)) (key-or o a) ≡ written (then t (verdict o)) (key-or o b)
 unfolding written verdict opens key-or
 key-written t (key k) a b = refl
 key-written (gives xs) differs a b = refl
 key-written (refuses r) differs a b = refl
 
-one-filled : (t u : Told) (b : Lent) (new : List ℕ) → u ≡ t → new ∷ [] ≡ left-of t (b ∷ []) → written u (new ++ []) ≡ written t (b .result)
+pub one-filled : (t u : Told) (b : Lent) (new : List ℕ) → u ≡ t → new ∷ [] ≡ left-of t (b ∷ []) → written u (new ++ []) ≡ written t (b .result)
 unfolding written
 one-filled (gives xs) u b new e f = rw e (ap (λ (s : List ℕ). 0 ∷ s) (append-nil new ∙ ap (λ (l : List (List ℕ)). getD l 0 []) f))
 one-filled (refuses r) u b new e f = rw e

@@ -149,6 +149,9 @@ unfolding answer-of
 answer-back Done = refl
 answer-back (Refused r) = ap Refused (refusal-back r)
 
+pub said-one : (v w : Answer) → said v ≡ said w → v ≡ w
+said-one v w e = sym (answer-back v) ∙ ap answer-of e ∙ answer-back w
+
 given-of : Told → Given
 given-of (gives xs) = Value (getD xs 0 0)
 given-of (refuses r) = NotGiven (refusal-of r)

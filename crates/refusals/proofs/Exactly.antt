@@ -275,7 +275,7 @@ three args = go (cases two args free-two)
     go (inr h) = inr (inr (clean args h))
 
 -- and what is told decides which
-abbrev sign-of : Told → No
+abbrev pub sign-of : Told → No
 sign-of (gives xs) = sign 0 0 0
 sign-of (refuses r) = r
 
