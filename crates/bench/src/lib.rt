@@ -1,5 +1,7 @@
 // What bench/run times, for a program in Rust to call: the permutation and the hashes, the ring, key sealing. Coefficients are the caller's to
 // keep below p.
+#![tactic(auto)]
+
 ghost use Rattle.std.specs.Prelude.{◌≡◌, length};
 ghost use Rattle.field.specs.Field.{Coefficients};
 ghost use Rattle.keccak.specs.Lanes.{keccak_p};

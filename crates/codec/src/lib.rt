@@ -1,4 +1,6 @@
 // Numbers of 64 bits as eight bytes, lowest first, and bytes copied; the sizes of keys and packets.
+#![tactic(auto)]
+
 ghost use Rattle.std.specs.Prelude.{◌≡◌, ◌+◌, ◌*◌, ◌<◌, ◌≤◌, length};
 ghost use Rattle.codec.specs.Layout.{word, words, bytes, with_word};
 ghost use Rattle.codec.specs.Sizes as sizes;

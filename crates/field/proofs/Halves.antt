@@ -1,5 +1,5 @@
 -- The halves of a product of two numbers of two digits each, in any base B, and that in base 2^32 no step is too large.
-use Rattle.std.proofs.Common.{◌≡◌, ℕ, ◌+◌, ◌*◌, ◌/◌, ◌%◌, ◌^◌, ◌<◌, ◌≤◌, sym, ap, ◌∙◌, add-zero, mod-lt, mul-le-mul, div-add-mod', arith, lit<}
+use Rattle.std.proofs.Common.{◌≡◌, ℕ, ◌+◌, ◌*◌, ◌/◌, ◌%◌, ◌^◌, ◌<◌, ◌≤◌, sym, ap, ◌∙◌, add-zero, mod-lt, mul-le-mul, div-add-mod', arith}
 use native.Mathlib.Nat.{add-mul-mod_self_right, mul-add-div_right, div-eq_of_lt}
 use Rattle.laws.proofs.Congruence.{mods}
 

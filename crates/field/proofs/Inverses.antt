@@ -1,11 +1,10 @@
 -- `inverse` gives the inverse: what it answers, times the number, is 1 modulo p; it has no answer for 0 alone.
-use Rattle.std.proofs.Common.{◌≡◌, ℕ, ◌-◌, ◌*◌, ◌%◌, ◌^◌, ◌<◌, Bool, eqb, ◌⊎◌, sym, refl, ap, ◌∙◌, inl, inr, eq-zero-or-pos, ne_of_gt, ne_eqb}
+use Rattle.std.proofs.Common.{◌≡◌, ℕ, ◌-◌, ◌*◌, ◌%◌, ◌^◌, ◌<◌, Bool, ◌⊎◌, refl, ap, ◌∙◌, inl, inr, eq-zero-or-pos, ne_of_gt, ne_eqb}
 use Rattle.laws.specs.Choices.{pick}
 use Rattle.field.specs.declared.BFieldElement.{BFieldElement}
-use Rattle.field.specs.declared.Inverted.{Inverted}
 use Rattle.field.specs.declared.Inverted.TheVariants.{Inverse, OfZero}
 use Rattle.field.specs.Field.{P, R2, reduced}
-use Rattle.field.specs.Element.{Good, num, Stands, word, element, inverted}
+use Rattle.field.specs.Element.{Good, num, word, element, inverted}
 use Rattle.field.proofs.Elements.{element_stands, stands_element}
 use Rattle.field.proofs.Fermat.{inverse_is}
 

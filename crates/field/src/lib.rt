@@ -1,11 +1,13 @@
 // The prime field of order p = 2^64 - 2^32 + 1 of b_field_element.rs. An element is held as its Montgomery word, with R = 2^64.
+#![tactic(auto)]
+
 ghost use Rattle.std.specs.Prelude.{◌≡◌, ◌+◌, ◌-◌, ◌*◌, ◌/◌, ◌%◌, ◌^◌, ◌<◌, ◌≤◌};
 ghost use Rattle.field.specs.Field.{P, reduced, wide};
 ghost use Rattle.field.specs.Element.{Good, num, Stands, inverted};
 ghost use Rattle.field.specs.Sums.{amount, carries};
 
 // A number of 128 bits in two halves.
-#[derive(Drop)]
+#[derive(Clone, Copy)]
 struct Wide {
     hi: u64,
     lo: u64,
@@ -122,7 +124,7 @@ fn reduced_product(a: u64, b: u64) -> u64
 }
 
 // A sum of products of plain numbers, top 2^128 + hi 2^64 + lo, to be reduced once. Made and read only through its functions.
-#[derive(Drop)]
+#[derive(Clone, Copy)]
 pub struct SumOfProducts {
     lo: u64,
     hi: u64,
@@ -169,11 +171,11 @@ pub fn sum_mod_p(s: SumOfProducts) -> u64
 }
 
 // A field element: its Montgomery word, made and read only through its functions.
-#[derive(Drop)]
+#[derive(Clone, Copy)]
 pub struct BFieldElement(u64);
 
 // What asking for an inverse gives.
-#[derive(Drop)]
+#[derive(Clone, Copy)]
 pub enum Inverted {
     Inverse(BFieldElement),
     OfZero,
@@ -188,9 +190,9 @@ impl BFieldElement {
 
     // Holds the constants to their values: its contract is about them, and nothing calls it.
     fn constants()
-        ensures* p { do ⌜ ((← (⟦Self::P⟧).entry) ≡ P) × (P ≡ 2 ^ 64 - 2 ^ 32 + 1) ⌝ }
-        ensures* max { do ⌜ (← (⟦Self::MAX⟧).entry) ≡ P - 1 ⌝ }
-        ensures* r2 { do ⌜ (← (⟦Self::R2⟧).entry) ≡ 2 ^ 128 % P ⌝ }
+        ensures p { (BFieldElement.P ≡ P) × (P ≡ 2 ^ 64 - 2 ^ 32 + 1) }
+        ensures max { BFieldElement.MAX ≡ P - 1 }
+        ensures r2 { BFieldElement.R2 ≡ 2 ^ 128 % P }
     {}
 
     pub fn new(value: u64) -> Self

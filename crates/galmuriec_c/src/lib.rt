@@ -1,5 +1,7 @@
 // The public calls for other languages, as include/galmuriec.h declares them. None demands anything of the caller beyond what a reference is:
 // a slice comes as a pointer and a count, the refusal as three numbers.
+#![tactic(auto)]
+
 ghost use Rattle.std.specs.Prelude.{◌≡◌, [], ◌∷◌, ◌+◌, ◌*◌, ◌-◌, ◌%◌, ◌^◌, length};
 ghost use Rattle.laws.specs.Lists.{zeros};
 ghost use Rattle.field.specs.Field.{P};

@@ -1,5 +1,7 @@
 // The program `job` as a function: one job from standard input, its answer to standard output (docs/SCHEME.md, "The job program"). It reads at
 // most one byte more than the longest job has, so any input, even an endless one, is answered. Where reading fails nothing is answered.
+#![tactic(auto)]
+
 ghost use Rattle.std.specs.Prelude.{◌≤◌, ◌<◌, length};
 ghost use Rattle.job_calls.specs.Jobs.{longest_answer, dec_job_bytes};
 ghost use Rattle.job_program.specs.Inputs.{Answers};

@@ -1,5 +1,7 @@
 // The public calls of the kem: keygen, enc, dec, with the ciphertext in bytes or as numbers, and the clearing of a secret key.
 // None demands anything of the caller.
+#![tactic(auto)]
+
 ghost use Rattle.std.specs.Prelude.{◌≡◌, [], ◌∷◌, length};
 ghost use Rattle.laws.specs.Lists.{zeros};
 ghost use Rattle.field.specs.Field.{Coefficients};

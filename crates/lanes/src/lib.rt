@@ -1,4 +1,6 @@
 // Samplers and message lanes of lattice.rs, over lent slices. Coefficients are canonical numbers.
+#![tactic(auto)]
+
 mod tables; // the set bits of every byte
 
 ghost use Rattle.std.specs.Prelude.{◌≡◌, ◌+◌, ◌*◌, ◌%◌, ◌^◌, ◌<◌, ◌≤◌, length};

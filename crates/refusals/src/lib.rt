@@ -1,5 +1,7 @@
 // Refusals: what a call says when it says no, the steps that decide it, and one judging function for each shape of an argument list, for any
 // sizes. docs/SCHEME.md, "When a call says no"; which call has which arguments is the table specs/Asks.
+#![tactic(auto)]
+
 ghost use Rattle.std.specs.Prelude.{◌≡◌, [], ◌∷◌};
 ghost use Rattle.codec.specs.Layout.{words};
 ghost use Rattle.laws.specs.Choices.{pick};
@@ -10,7 +12,7 @@ ghost use Rattle.refusals.specs.Answers.{said, paper};
 use field::BFieldElement;
 
 // Why a call says no. Arguments are counted from 1, inputs before outputs.
-#[derive(Drop)]
+#[derive(Clone, Copy)]
 pub enum Refusal {
     // The argument has not an allowed length.
     Length(u8),
@@ -25,28 +27,28 @@ pub enum Refusal {
 }
 
 // What a call that fills buffers answers.
-#[derive(Drop)]
+#[derive(Clone, Copy)]
 pub enum Answer {
     Done,
     Refused(Refusal),
 }
 
 // What a call that gives a number answers, whether or not it fills buffers.
-#[derive(Drop)]
+#[derive(Clone, Copy)]
 pub enum Given {
     Value(u64),
     NotGiven(Refusal),
 }
 
 // What a call that gives two numbers answers.
-#[derive(Drop)]
+#[derive(Clone, Copy)]
 pub enum GivenTwo {
     Values(u64, u64),
     NeitherGiven(Refusal),
 }
 
 // A refusal as docs/SCHEME.md writes it.
-#[derive(Drop)]
+#[derive(Clone, Copy)]
 pub struct Record {
     pub number: u8,
     pub argument: u8,

@@ -1,5 +1,7 @@
 // The ring of lattice.rs, polynomials modulo X^64 + 1 and p: both transforms, sums, differences and products of ring elements, and the
 // product of matrices of them. A ring element is 64 canonical numbers, a matrix one flat slice of ring elements, row by row.
+#![tactic(auto)]
+
 mod tables; // the zetas, and 1/64
 
 ghost use Rattle.std.specs.Prelude.{◌≡◌, ℕ, ◌+◌, ◌*◌, ◌-◌, ◌%◌, ◌^◌, ◌<◌, ◌≤◌, length, get_or};

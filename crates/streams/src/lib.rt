@@ -1,5 +1,7 @@
 // All bytes from or to a descriptor, for programs: a read that fails is told apart from the end of the input, and a write that takes only
 // a part is continued. Every function returns if each call of the system does, whatever it answers.
+#![tactic(auto)]
+
 ghost use Rattle.std.specs.Prelude.{◌≡◌, ◌-◌, ◌≤◌, length};
 ghost use Rattle.streams.specs.Counts.{Within, Whole};
 
@@ -13,7 +15,7 @@ pub const TRIES: u32 = 1000;
 const PAUSE: i64 = 10_000_000;
 
 // What became of reading or writing: how many bytes; the number of the error that stopped it; or that TRIES calls moved nothing.
-#[derive(Drop)]
+#[derive(Clone, Copy)]
 pub enum Moved {
     Bytes(usize),
     Failed(i32),

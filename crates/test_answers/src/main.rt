@@ -1,5 +1,7 @@
 // Answers questions on the layers below the public calls, one to a line, as oracle/README.md describes the lines; the same questions are put to
 // the Rust. The file stdin holds a sample of them, and stdout what the Rust answered.
+#![tactic(auto)]
+
 mod of_field;
 mod of_kem;
 mod of_lanes;

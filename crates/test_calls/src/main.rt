@@ -1,5 +1,7 @@
 // Answers questions on the public calls, one to a line, as tests/calls/README.md describes the lines. The file stdin holds the questions and stdout
 // what tests/calls/make, which knows nothing of this program, expects.
+#![tactic(auto)]
+
 mod arguments; // what an argument holds
 mod jobs; // the job call
 mod packets; // the kem's calls

@@ -1,18 +1,18 @@
 // A question: the call's word, four arguments and two places that are set.
-#[derive(Drop)]
+#[derive(Clone, Copy)]
 pub struct Argument {
     pub length: usize,
     pub seed: u64,
 }
 
-#[derive(Drop)]
+#[derive(Clone, Copy)]
 pub struct Place {
     pub argument: u64,
     pub index: usize,
     pub value: u64,
 }
 
-#[derive(Drop)]
+#[derive(Clone, Copy)]
 pub struct Question {
     pub call: u64,
     pub first: Argument,

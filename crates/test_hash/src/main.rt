@@ -5,6 +5,8 @@
 //   sha3 00032   SHA3-256 of the message, in hex
 //   shak NNNNN   N bytes of SHAKE256 in hex; of more than 64 the first 32 and the last 32, with two dots between
 //   full NNNNN   all N bytes of SHAKE256 in hex
+#![tactic(auto)]
+
 ghost use Rattle.std.specs.Prelude.{◌≤◌};
 
 use libc::{STDIN_FILENO, STDOUT_FILENO};
@@ -18,7 +20,7 @@ const SHA3: u64 = 0x7368_6133;
 
 const FULL: u64 = 0x6675_6c6c;
 
-#[derive(Drop)]
+#[derive(Clone, Copy)]
 enum Next {
     Size(usize),
     End,

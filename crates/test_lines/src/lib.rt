@@ -1,4 +1,6 @@
 // Lines of questions and answers, as the test programs read and write them: numbers as 16 hexadecimal digits in lower case.
+#![tactic(auto)]
+
 ghost use Rattle.std.specs.Prelude.{◌≡◌, ◌<◌, ◌≤◌, length};
 ghost use Rattle.field.specs.Field.{P, Coefficients};
 
