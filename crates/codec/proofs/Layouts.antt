@@ -1,14 +1,14 @@
 -- Reading and writing undo each other, and what a loop has done that writes numbers.
-use mathlib.Core.Path.{◌≡◌, refl, sym, ap, ◌∙◌, subst}
+use mathlib.Core.Path.{◌≡◌, sym, ap, ◌∙◌, subst}
 use mathlib.Core.List.{List}
 use Prim.Native.Nat.{ℕ, suc, ◌+◌, ◌*◌, ◌/◌, ◌%◌, ◌^◌, ◌≤◌, ◌<◌}
-use native.Mathlib.Nat.{zero-add, add-zero, add_assoc, mod-lt, mod-eq_of_lt}
+use native.Mathlib.Nat.{zero-add, add-zero, mod-lt, mod-eq_of_lt}
 use native.Mathlib.Omega.{arith}
 use lib.Dec.{lit<}
 use lib.ListN.{length, get_or, set, drop}
 use lib.Seq.{ext_get_or, get_or-drop}
-use Rattle.laws.specs.Lists.{tab, Below}
-use Rattle.laws.specs.Digits.{digit, number}
+use Rattle.laws.specs.Lists.{Below}
+use Rattle.laws.specs.Digits.{digit}
 use Rattle.laws.proofs.Lists.{length-tab, get_or-tab}
 use Rattle.laws.proofs.Bounds.{tab_below}
 use Rattle.laws.proofs.Digits.{number_ext, number_digits, digit-number}

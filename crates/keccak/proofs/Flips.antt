@@ -2,17 +2,16 @@
 use mathlib.Core.Path.{◌≡◌, refl, sym, ap, ap₂, ◌∙◌}
 use mathlib.Core.Bool.{Bool, true, false, not, ◌||◌}
 use mathlib.Core.List.{List}
-use Prim.Native.Nat.{ℕ, ◌+◌, ◌-◌, ◌*◌, ◌/◌, ◌%◌, ◌^◌, ◌<◌, ◌≤◌}
+use Prim.Native.Nat.{ℕ, ◌+◌, ◌-◌, ◌*◌, ◌%◌, ◌^◌, ◌<◌, ◌≤◌}
 use native.Mathlib.Omega.{arith}
 use lib.Bits.{bit_xor, bit_and, bit_or, xor_lt, and_lt}
 use lib.Dec.{eqb}
-use lib.ListN.{get_or, set, length}
+use lib.ListN.{get_or, length}
 use lib.Pow.{pow_pos}
 use Rattle.laws.specs.Lists.{Below, tab, tab_from}
 use Rattle.laws.proofs.Bits.{bit_not, bit_ext, not-not, not-lt, xor-not, not_xor_left, or-not}
 use Rattle.laws.proofs.Bounds.{tab_below}
-use Rattle.laws.proofs.Lists.{get_or-tab, tab_ext, is_tab, length-tab}
-use Rattle.keccak.specs.Keccak.{offset}
+use Rattle.laws.proofs.Lists.{get_or-tab, tab_ext, is_tab}
 use Rattle.keccak.specs.Lanes.{rot, parity, parities, effect, effects, rotation, source, moved, row, laid, constants, step, rounds, keccak_p}
 use Rattle.keccak.specs.Complement.{flip, differ, over, flips, flipped, complemented, over_parity, over_effect, kept_row}
 use Rattle.keccak.proofs.Assembly.{laid_by, whole, assembled}
