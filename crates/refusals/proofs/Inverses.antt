@@ -13,7 +13,7 @@ use Rattle.field.proofs.Elements.{element_stands}
 use Rattle.field.proofs.Fermat.{inverse_is}
 use Rattle.field.proofs.Inverses.{inverted-zero, inverted-other}
 use Rattle.refusals.specs.Arguments.{value}
-use Rattle.refusals.specs.Judgement.{Told, gives, refuses, sign, judged}
+use Rattle.refusals.specs.Judgement.{gives, refuses, sign, judged}
 use Rattle.refusals.specs.Answers.{said, Call}
 use Rattle.refusals.specs.declared.Answer.{Answer}
 use Rattle.refusals.specs.declared.Answer.TheVariants.{Done}

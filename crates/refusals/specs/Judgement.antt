@@ -1,6 +1,6 @@
 -- How any call is judged, from its input lists and the lengths of its outputs: docs/SCHEME.md, "When a call says no". A call is described by the
 -- list of its arguments, inputs before outputs.
-use Rattle.std.specs.Prelude.{Bool, true, false, List, [], ◌∷◌, ℕ, suc, ltb, length}
+use Rattle.std.specs.Prelude.{Bool, List, [], ◌∷◌, ℕ, suc, ltb, length}
 use Rattle.laws.specs.Choices.{pick}
 use Rattle.field.specs.Field.{P}
 use Rattle.refusals.specs.Arguments.{Asked, fits, coefficients}

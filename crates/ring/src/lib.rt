@@ -232,7 +232,7 @@ fn combined(vector: &[u64], k: usize, matrix: &[u64], at: usize, step: usize) ->
 }
 
 // A vector of four ring elements times a matrix: element e of out is the sum over q of vector element q times matrix element
-// typeof.e.row + typeof.q.step.
+// e·row + q·step.
 fn vector_times(
     vector: &[u64],
     matrix: &[u64],

@@ -1,0 +1,10 @@
+-- `shake256` is FIPS 202's, by the law on the running sponge.
+use Prim.Native.Nat.{◌-◌}
+use mathlib.Core.Path.{◌∙◌}
+use borrow.Author.Rules.{rules}
+use Rattle.hash.proofs.Hashes.{hashed-shake256}
+use Rattle.hash.proofs.shake256.Goals as goal
+
+pub returns : goal.returns
+returns c =
+    c.sponge.ensures ∙ hashed-shake256 _ _ (λ i. (c.type_inv.message i).fits)

@@ -1,0 +1,12 @@
+-- `shake256_start` closes the message as SHAKE256 does.
+use mathlib.Core.Path.{◌∙◌, ap}
+use borrow.Author.Rules.{rules}
+use Rattle.hash.specs.Running.{drawn, hashed}
+use Rattle.hash.proofs.Hashes.{hashed-shake256}
+use Rattle.hash.proofs.shake256_start.Goals as goal
+
+pub returns : goal.returns
+unfolding hashed
+returns c = record {
+  bytes = λ n. ap (drawn 136 n) c.fed.ensures ∙ hashed-shake256 _ n (λ i. (c.shared_slice_known-1.given i).fits);
+}

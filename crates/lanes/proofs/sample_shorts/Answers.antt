@@ -1,0 +1,14 @@
+-- `sample_shorts` draws as many short coefficients as there is room for. The loop's invariant: the first k are drawn.
+use native.Mathlib.Omega.{arith}
+use mathlib.Core.Path.{◌≡◌, refl}
+use lib.ListN.{length}
+use Rattle.laws.proofs.Updates.{mapped_all, mapped_at}
+use Rattle.lanes.specs.Samplers.{shorts}
+use Rattle.lanes.proofs.sample_shorts.Goals as goal
+
+pub returns : goal.returns
+unfolding shorts
+returns c =
+    let a = c.args in
+    let e : c.loop-k.k ≡ length a.out.now = omega arith in
+    mapped_all _ (length a.out.now) a.out.now c.loop-k.out refl (mapped_at e c.loop-k.invariant.2)

@@ -1,0 +1,14 @@
+-- `add` adds, coefficient by coefficient.
+use borrow.Author.Rules.{rules}
+use native.Mathlib.Omega.{arith}
+use Prim.Native.Nat.{◌+◌, ◌-◌, ◌%◌}
+use Rattle.laws.proofs.Assigned.{Assigned, assigned_none, assigned_more, assigned_all, below_at}
+use Rattle.field.specs.Field.{P}
+use Rattle.ring.specs.Elements.{plus}
+use Rattle.ring.proofs.add.Given as goal
+
+abbrev pub invariant-loop-i : goal.invariant-loop-i
+invariant-loop-i l = Assigned (λ x y. (x + y) % P) 64 l.i l.lhs l.rhs l.initial.out l.out
+
+abbrev pub decreases-loop-i : goal.decreases-loop-i
+decreases-loop-i l = 64 - l.i

@@ -1,0 +1,15 @@
+-- `add_assign` adds, coefficient by coefficient.
+use borrow.Author.Rules.{rules}
+use native.Mathlib.Omega.{arith}
+use Prim.Native.Nat.{◌+◌, ◌-◌, ◌%◌}
+use mathlib.Core.Path.{refl}
+use Rattle.field.specs.Field.{P}
+use Rattle.ring.specs.Elements.{plus}
+use Rattle.laws.proofs.Assigned.{Assigned, assigned_none, assigned_left, assigned_step, assigned_all, below_at}
+use Rattle.ring.proofs.add_assign.Given as goal
+
+abbrev pub invariant-loop-i : goal.invariant-loop-i
+invariant-loop-i l = Assigned (λ x y. (x + y) % P) l.i-end l.i l.initial.lhs l.rhs l.initial.lhs l.lhs
+
+abbrev pub decreases-loop-i : goal.decreases-loop-i
+decreases-loop-i l = l.i-end - l.i

@@ -1,0 +1,14 @@
+-- `copy` copies.
+use borrow.Author.Rules.{rules}
+use native.Mathlib.Omega.{arith}
+use Prim.Native.Nat.{◌-◌, ◌≤◌}
+use mathlib.Core.Path.{◌≡◌, refl}
+use lib.ListN.{length, get_or}
+use Rattle.laws.proofs.Updates.{Filled, mapped_none, mapped_more, copied}
+use Rattle.ring.proofs.copy.Given as goal
+
+abbrev pub invariant-loop-i : goal.invariant-loop-i
+invariant-loop-i l = (l.i ≤ l.i-end) × (l.i-end ≡ length l.initial.to) × Filled (λ j. get_or l.from j 0) l.i l.initial.to l.to
+
+abbrev pub decreases-loop-i : goal.decreases-loop-i
+decreases-loop-i l = l.i-end - l.i

@@ -1,0 +1,15 @@
+-- `sub` subtracts, coefficient by coefficient.
+use borrow.Author.Rules.{rules}
+use native.Mathlib.Omega.{arith}
+use native.Mathlib.Nat.{le_of_lt}
+use Prim.Native.Nat.{◌+◌, ◌-◌, ◌%◌}
+use Rattle.laws.proofs.Assigned.{Assigned, assigned_none, assigned_more, assigned_all, below_at}
+use Rattle.field.specs.Field.{P}
+use Rattle.ring.specs.Elements.{minus}
+use Rattle.ring.proofs.sub.Given as goal
+
+abbrev pub invariant-loop-i : goal.invariant-loop-i
+invariant-loop-i l = Assigned (λ x y. (x + (P - y)) % P) 64 l.i l.lhs l.rhs l.initial.out l.out
+
+abbrev pub decreases-loop-i : goal.decreases-loop-i
+decreases-loop-i l = 64 - l.i

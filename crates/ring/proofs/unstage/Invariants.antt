@@ -1,0 +1,14 @@
+-- `unstage` is `backward`, block by block.
+use borrow.Author.Rules.{rules}
+use native.Mathlib.Omega.{arith}
+use Prim.Native.Nat.{◌+◌, ◌*◌, ◌-◌, ◌≤◌}
+use Rattle.ring.specs.Stages.{backward}
+use Rattle.ring.proofs.Blocks.{Staged, staged_none, staged_canonical, staged_room, staged_more, staged_all}
+use Rattle.ring.proofs.Backward.{back}
+use Rattle.ring.proofs.unstage.Given as goal
+
+abbrev pub invariant-loop-i : goal.invariant-loop-i
+invariant-loop-i l = Staged back l.h l.t l.initial.array l.i l.array
+
+abbrev pub decreases-loop-i : goal.decreases-loop-i
+decreases-loop-i l = l.h - l.i
