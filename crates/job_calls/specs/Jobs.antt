@@ -1,5 +1,5 @@
 -- docs/SCHEME.md, "The job program": what is answered to the bytes of one job, and what a lent buffer then holds.
-use Rattle.std.specs.Prelude.{Bool, true, false, ◌≡◌, List, [], ◌∷◌, ◌++◌, ℕ, ◌+◌, eqb, leb, length, get_or, drop}
+use Rattle.std.specs.Prelude.{Bool, false, ◌≡◌, List, [], ◌∷◌, ◌++◌, ℕ, ◌+◌, eqb, leb, length, get_or, drop}
 use Rattle.codec.specs.Layout.{words, bytes}
 use Rattle.codec.specs.Sizes.{secret_key_bytes, public_key_bytes, ciphertext_bytes, shared_key_bytes, randomness_bytes}
 use Rattle.laws.specs.Choices.{pick}

@@ -1,0 +1,8 @@
+-- `enc_job` asks the public call and tells its answer.
+use Rattle.job_calls.proofs.Fronts.{writes_two}
+use Rattle.job_calls.specs.Jobs.{enc_answer}
+use Rattle.job_calls.proofs.enc_job.Goals as goal
+
+pub returns : goal.returns
+unfolding enc_answer
+returns c = search writes_two
