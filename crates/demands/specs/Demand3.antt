@@ -14,7 +14,7 @@ use Rattle.packets.specs.Parameters.{payload_bytes}
 use Rattle.packets.specs.Packets.{Bytes, payload, public_key, sealing}
 use Rattle.packets.specs.Layout.{public_bytes, public_of}
 use Rattle.packets.specs.Opening.{Opens, Quiet, Read}
-use Rattle.demands.specs.Outcomes.{size}
+use Rattle.demands.specs.Outcomes.{size, size_mut}
 use Rattle.demands.specs.Calls.{Keygen, Enc, EncNumbers, Dec, DecNumbers}
 
 -- a payload whose sealing under the key's own public key is this ciphertext, and which is what extraction reads from embed(payload) + b·c - d·a
@@ -35,10 +35,10 @@ pub record Opening (sk ct : List ℕ) (answer : Answer) (before after : List ℕ
 pub record Demand3 : Type 0 where
   -- with the ciphertext in bytes, and as numbers
   pub dec : (o : Dec) → size o.lent.0 ≡ secret_key_bytes → size o.lent.1.0 ≡ ciphertext_bytes
-      → Coefficients ciphertext_numbers (words o.lent.1.0.now) → size o.lent.1.1.0 ≡ shared_key_bytes
+      → Coefficients ciphertext_numbers (words o.lent.1.0.now) → size_mut o.lent.1.1.0 ≡ shared_key_bytes
       → Opening o.lent.0.now (words o.lent.1.0.now) o.answer o.lent.1.1.0.now o.after.1.1.0.now
   pub dec_numbers : (o : DecNumbers) → size o.lent.0 ≡ secret_key_bytes → Coefficients ciphertext_numbers o.lent.1.0.now
-      → size o.lent.1.1.0 ≡ shared_key_bytes
+      → size_mut o.lent.1.1.0 ≡ shared_key_bytes
       → Opening o.lent.0.now o.lent.1.0.now o.answer o.lent.1.1.0.now o.after.1.1.0.now
   -- the second condition always holds if each coefficient of b·c - d·a is congruent modulo p to e0 + 2^16 e1 + 2^32 e2 + 2^48 e3 with every e
   -- from -16381 to 16381
@@ -52,13 +52,13 @@ pub record Demand3 : Type 0 where
       × (e.after.1.1.1.0.now ≡ sealing ones (public_of e.lent.0.now) (payload e.lent.1.0.now))
   -- so what `enc` writes for the key opens, with such noise, to the shared key that it gave its sealer,
   pub arrives : (e : Enc) (d : Dec) → e.answer ≡ Done → e.lent.0.now ≡ public_bytes (public_key ones d.lent.0.now)
-      → size d.lent.0 ≡ secret_key_bytes → d.lent.1.0.now ≡ e.after.1.1.1.0.now → size d.lent.1.1.0 ≡ shared_key_bytes
+      → size d.lent.0 ≡ secret_key_bytes → d.lent.1.0.now ≡ e.after.1.1.1.0.now → size_mut d.lent.1.1.0 ≡ shared_key_bytes
       → Quiet ones d.lent.0.now (payload e.lent.1.0.now)
       → (d.answer ≡ Done) × (d.after.1.1.0.now ≡ e.after.1.1.0.now)
   pub arrives_numbers : (e : EncNumbers) (d : DecNumbers) → e.answer ≡ Done → e.lent.0.now ≡ public_bytes (public_key ones d.lent.0.now)
-      → size d.lent.0 ≡ secret_key_bytes → d.lent.1.0.now ≡ e.after.1.1.1.0.now → size d.lent.1.1.0 ≡ shared_key_bytes
+      → size d.lent.0 ≡ secret_key_bytes → d.lent.1.0.now ≡ e.after.1.1.1.0.now → size_mut d.lent.1.1.0 ≡ shared_key_bytes
       → Quiet ones d.lent.0.now (payload e.lent.1.0.now)
       → (d.answer ≡ Done) × (d.after.1.1.0.now ≡ e.after.1.1.0.now)
   -- and `keygen` writes a secret key and that key's own public key
   pub own_public_key : (k : Keygen) → k.answer ≡ Done
-      → (size k.after.1.0 ≡ secret_key_bytes) × (k.after.1.1.0.now ≡ public_bytes (public_key ones k.after.1.0.now))
+      → (size_mut k.after.1.0 ≡ secret_key_bytes) × (k.after.1.1.0.now ≡ public_bytes (public_key ones k.after.1.0.now))

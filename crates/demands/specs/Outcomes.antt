@@ -1,9 +1,11 @@
 -- What a public call may do, in terms of its contract as the language reads it off the source: `Asked` is what the call demands, `Learnt` what it
 -- promises, `statement` that the compiled function meets both.
 use Rattle.std.specs.Prelude.{◌≡◌, List, ℕ, length}
-use prog.Routine.{Env, Name, Routine}
+use mir.Syntax.{Callee}
+use prog.Routine.{Env}
+use prog.Wired.{Code, Wired}
 use contract.Lifetimes.{Lfts}
-use Rattle.std.specs.Borrow.{Bor}
+use Rattle.std.specs.Borrow.{Bor, MutBor}
 use denote.Triple.Clauses.{AtExit}
 use borrow.Fn.Kinds.{ParamKind, ResultKind, Dens, In, Out, res_t, ended_of}
 use borrow.Fn.Plain.{Known}
@@ -19,14 +21,18 @@ pub record Outcome (n : ℕ) (ps : List (ParamKind n)) (r : ResultKind n) (Promi
   pub allowed : Promise lifetimes lent answer after
 
 -- the call always ends, with such an outcome, and demands nothing of what it is lent
-pub record Total (n : ℕ) (ps : List (ParamKind n)) (r : ResultKind n) (code : Routine) (Demand : In n ps) (Promise : Out n ps r) (statement : Type 1 → Type 2)
-    : Type 2 where
+pub record Total (n : ℕ) (ps : List (ParamKind n)) (r : ResultKind n) (name : Callee) (code : Code) (Demand : In n ps) (Promise : Out n ps r)
+    (statement : Type 1 → Type 2) : Type 2 where
   pub ends : {M : Type 1} → statement M
-  -- what a caller may count on, wherever the code stands under whatever name: the promise itself, of some answer and last contents
-  pub with_outcome : (w : World) (γ : Env) (k : Name) → γ k ≡ code
+  -- what a caller may count on, wherever the code stands and under whatever name it is called: the promise itself, of some answer and last contents
+  pub with_outcome : (w : World) (γ : Env) (k : Callee) → Wired w.𝓡.env code → γ k ≡ w.𝓡.env name
       → Known w.𝓛 (Over w.𝓛 w.𝓜 w.𝓡 γ) n ps r Demand Promise k
   pub demands_nothing : (κs : Lfts n) (lent : Dens κs ps) → Demand κs lent
 
 -- how long a lent slice is
 abbrev pub size : Bor (List ℕ) → ℕ
 size s = length s.now
+
+-- the same of one that is lent to be written
+abbrev pub size_mut : MutBor (List ℕ) → ℕ
+size_mut s = length s.now
