@@ -52,12 +52,14 @@ answered = record {
   };
   coset_ntt_noswap_64 = record {
     ends = ring.coset_ntt_noswap_64.Met.met;
-    with_outcome = λ w γ k wired e. ring.coset_ntt_noswap_64.Reads.known w γ k _ e (ring.coset_ntt_noswap_64.Met.met w.𝓤 w.𝓛 w.𝓜 w.𝓡 wired);
+    with_outcome = λ w γ k wired e.
+        ring.coset_ntt_noswap_64.Reads.known w γ k _ e (ring.coset_ntt_noswap_64.Met.met w.𝓤 w.𝓛 w.𝓜 w.𝓡 wired);
     demands_nothing = λ κs lent. tt;
   };
   coset_intt_noswap_64 = record {
     ends = ring.coset_intt_noswap_64.Met.met;
-    with_outcome = λ w γ k wired e. ring.coset_intt_noswap_64.Reads.known w γ k _ e (ring.coset_intt_noswap_64.Met.met w.𝓤 w.𝓛 w.𝓜 w.𝓡 wired);
+    with_outcome = λ w γ k wired e.
+        ring.coset_intt_noswap_64.Reads.known w γ k _ e (ring.coset_intt_noswap_64.Met.met w.𝓤 w.𝓛 w.𝓜 w.𝓡 wired);
     demands_nothing = λ κs lent. tt;
   };
   ring_add = record {
@@ -77,7 +79,8 @@ answered = record {
   };
   matrix_times_column = record {
     ends = ring.matrix_times_column.Met.met;
-    with_outcome = λ w γ k wired e. ring.matrix_times_column.Reads.known w γ k _ e (ring.matrix_times_column.Met.met w.𝓤 w.𝓛 w.𝓜 w.𝓡 wired);
+    with_outcome = λ w γ k wired e.
+        ring.matrix_times_column.Reads.known w γ k _ e (ring.matrix_times_column.Met.met w.𝓤 w.𝓛 w.𝓜 w.𝓡 wired);
     demands_nothing = λ κs lent. tt;
   };
   row_times_matrix = record {
@@ -164,12 +167,14 @@ answered = record {
   };
   refusal_record = record {
     ends = refusals.Refusal.record.Met.met;
-    with_outcome = λ w γ k wired e. refusals.Refusal.record.Reads.known w γ k _ e (refusals.Refusal.record.Met.met w.𝓤 w.𝓛 w.𝓜 w.𝓡 wired);
+    with_outcome = λ w γ k wired e.
+        refusals.Refusal.record.Reads.known w γ k _ e (refusals.Refusal.record.Met.met w.𝓤 w.𝓛 w.𝓜 w.𝓡 wired);
     demands_nothing = λ κs lent. tt;
   };
   answer_unless = record {
     ends = refusals.Answer.unless.Met.met;
-    with_outcome = λ w γ k wired e. refusals.Answer.unless.Reads.known w γ k _ e (refusals.Answer.unless.Met.met w.𝓤 w.𝓛 w.𝓜 w.𝓡 wired);
+    with_outcome = λ w γ k wired e.
+        refusals.Answer.unless.Reads.known w γ k _ e (refusals.Answer.unless.Met.met w.𝓤 w.𝓛 w.𝓜 w.𝓡 wired);
     demands_nothing = λ κs lent. tt;
   };
   answer_sized = record {
@@ -184,12 +189,14 @@ answered = record {
   };
   answer_numbers = record {
     ends = refusals.Answer.numbers.Met.met;
-    with_outcome = λ w γ k wired e. refusals.Answer.numbers.Reads.known w γ k _ e (refusals.Answer.numbers.Met.met w.𝓤 w.𝓛 w.𝓜 w.𝓡 wired);
+    with_outcome = λ w γ k wired e.
+        refusals.Answer.numbers.Reads.known w γ k _ e (refusals.Answer.numbers.Met.met w.𝓤 w.𝓛 w.𝓜 w.𝓡 wired);
     demands_nothing = λ κs lent. tt;
   };
   answer_packed = record {
     ends = refusals.Answer.packed.Met.met;
-    with_outcome = λ w γ k wired e. refusals.Answer.packed.Reads.known w γ k _ e (refusals.Answer.packed.Met.met w.𝓤 w.𝓛 w.𝓜 w.𝓡 wired);
+    with_outcome = λ w γ k wired e.
+        refusals.Answer.packed.Reads.known w γ k _ e (refusals.Answer.packed.Met.met w.𝓤 w.𝓛 w.𝓜 w.𝓡 wired);
     demands_nothing = λ κs lent. tt;
   };
 }

@@ -1,8 +1,0 @@
--- `galmuriec_sample_short` reports the call's answer.
-use borrow.Author.Rules.{rules}
-use Rattle.galmuriec_c.proofs.Ends.{left_behind}
-use Rattle.galmuriec_c.proofs.galmuriec_sample_short.Statement.{statement}
-use Rattle.galmuriec_c.proofs.galmuriec_sample_short.Tie as tie
-
-pub galmuriec_sample_short_spec : {M : Type 1} → statement M
-galmuriec_sample_short_spec = tie.close (tie.spec (λ c κs. search rules) (λ c κs. search rules) (λ c. search rules) (λ c. search left_behind))
