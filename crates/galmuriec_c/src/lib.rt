@@ -63,7 +63,7 @@ fn deliver(answer: Given, res: &mut u64, refusal: &mut [u64; 3]) -> u64
 pub extern "C" fn galmuriec_field_new(x: u64) -> u64
     ensures { result ≡ x % P }
 {
-    galmuriec::field::new(x)
+    galmuriec::prime_field::new(x)
 }
 
 #[unsafe(no_mangle)]
@@ -71,7 +71,7 @@ pub extern "C" fn galmuriec_field_value(x: u64, res: &mut u64, refusal: &mut [u6
     ensures { GivesC (asks.field_value x) result refusal.new
         res.old res.new x }
 {
-    deliver(galmuriec::field::value(x), res, refusal)
+    deliver(galmuriec::prime_field::value(x), res, refusal)
 }
 
 #[unsafe(no_mangle)]
@@ -79,7 +79,7 @@ pub extern "C" fn galmuriec_field_add(a: u64, b: u64, res: &mut u64, refusal: &m
     ensures { GivesC (asks.field_add a b) result refusal.new
         res.old res.new ((a + b) % P) }
 {
-    deliver(galmuriec::field::add(a, b), res, refusal)
+    deliver(galmuriec::prime_field::add(a, b), res, refusal)
 }
 
 #[unsafe(no_mangle)]
@@ -87,7 +87,7 @@ pub extern "C" fn galmuriec_field_sub(a: u64, b: u64, res: &mut u64, refusal: &m
     ensures { GivesC (asks.field_sub a b) result refusal.new
         res.old res.new ((a + (P - b)) % P) }
 {
-    deliver(galmuriec::field::sub(a, b), res, refusal)
+    deliver(galmuriec::prime_field::sub(a, b), res, refusal)
 }
 
 #[unsafe(no_mangle)]
@@ -95,7 +95,7 @@ pub extern "C" fn galmuriec_field_mul(a: u64, b: u64, res: &mut u64, refusal: &m
     ensures { GivesC (asks.field_mul a b) result refusal.new
         res.old res.new (a * b % P) }
 {
-    deliver(galmuriec::field::mul(a, b), res, refusal)
+    deliver(galmuriec::prime_field::mul(a, b), res, refusal)
 }
 
 #[unsafe(no_mangle)]
@@ -103,7 +103,7 @@ pub extern "C" fn galmuriec_field_neg(a: u64, res: &mut u64, refusal: &mut [u64;
     ensures { GivesC (asks.field_neg a) result refusal.new
         res.old res.new ((P - a) % P) }
 {
-    deliver(galmuriec::field::neg(a), res, refusal)
+    deliver(galmuriec::prime_field::neg(a), res, refusal)
 }
 
 #[unsafe(no_mangle)]
@@ -111,7 +111,7 @@ pub extern "C" fn galmuriec_field_inverse(a: u64, res: &mut u64, refusal: &mut [
     ensures { Delivers (tells (asks.field_inverse a) (inverse_told a)) result refusal.new
         res.old res.new }
 {
-    deliver(galmuriec::field::inverse(a), res, refusal)
+    deliver(galmuriec::prime_field::inverse(a), res, refusal)
 }
 
 #[unsafe(no_mangle)]
@@ -124,7 +124,7 @@ pub extern "C" fn galmuriec_field_mod_pow(
     ensures { GivesC (asks.field_mod_pow a) result refusal.new
         res.old res.new (a ^ exp % P) }
 {
-    deliver(galmuriec::field::mod_pow(a, exp), res, refusal)
+    deliver(galmuriec::prime_field::mod_pow(a, exp), res, refusal)
 }
 
 // ---- ring elements of 64 numbers, and matrices of them
@@ -133,7 +133,10 @@ pub extern "C" fn galmuriec_coset_ntt_noswap_64(array: &mut [u64], refusal: &mut
     ensures { FillsC (asks.coset_ntt_noswap_64 array.old) result refusal.new array.old array.new
         (transform array.old) }
 {
-    report(galmuriec::ring::coset_ntt_noswap_64(array), refusal)
+    report(
+        galmuriec::ring_elements::coset_ntt_noswap_64(array),
+        refusal,
+    )
 }
 
 #[unsafe(no_mangle)]
@@ -141,7 +144,10 @@ pub extern "C" fn galmuriec_coset_intt_noswap_64(array: &mut [u64], refusal: &mu
     ensures { FillsC (asks.coset_intt_noswap_64 array.old) result refusal.new array.old array.new
         (untransform array.old) }
 {
-    report(galmuriec::ring::coset_intt_noswap_64(array), refusal)
+    report(
+        galmuriec::ring_elements::coset_intt_noswap_64(array),
+        refusal,
+    )
 }
 
 #[unsafe(no_mangle)]
@@ -154,7 +160,7 @@ pub extern "C" fn galmuriec_ring_add(
     ensures { FillsC (asks.ring_add lhs.now rhs.now (length out.old)) result
         refusal.new out.old out.new (plus 64 lhs.now rhs.now) }
 {
-    report(galmuriec::ring::add(lhs, rhs, out), refusal)
+    report(galmuriec::ring_elements::add(lhs, rhs, out), refusal)
 }
 
 #[unsafe(no_mangle)]
@@ -167,7 +173,7 @@ pub extern "C" fn galmuriec_ring_sub(
     ensures { FillsC (asks.ring_sub lhs.now rhs.now (length out.old)) result
         refusal.new out.old out.new (minus 64 lhs.now rhs.now) }
 {
-    report(galmuriec::ring::sub(lhs, rhs, out), refusal)
+    report(galmuriec::ring_elements::sub(lhs, rhs, out), refusal)
 }
 
 #[unsafe(no_mangle)]
@@ -180,7 +186,7 @@ pub extern "C" fn galmuriec_ring_mul(
     ensures { FillsC (asks.ring_mul lhs.now rhs.now (length out.old)) result
         refusal.new out.old out.new (product lhs.now rhs.now) }
 {
-    report(galmuriec::ring::mul(lhs, rhs, out), refusal)
+    report(galmuriec::ring_elements::mul(lhs, rhs, out), refusal)
 }
 
 #[unsafe(no_mangle)]
@@ -236,7 +242,7 @@ pub extern "C" fn galmuriec_sample_short_bfield_element(
         res.old res.new (short ones randomness.now 0) }
 {
     deliver(
-        galmuriec::lanes::sample_short_bfield_element(randomness),
+        galmuriec::message_lanes::sample_short_bfield_element(randomness),
         res,
         refusal,
     )
@@ -251,7 +257,10 @@ pub extern "C" fn galmuriec_sample_short(
     ensures { FillsC (asks.sample_short (length randomness.now) (length out.old)) result
         refusal.new out.old out.new (shorts ones 64 randomness.now) }
 {
-    report(galmuriec::lanes::sample_short(randomness, out), refusal)
+    report(
+        galmuriec::message_lanes::sample_short(randomness, out),
+        refusal,
+    )
 }
 
 #[unsafe(no_mangle)]
@@ -263,7 +272,10 @@ pub extern "C" fn galmuriec_sample_uniform(
     ensures { FillsC (asks.sample_uniform (length randomness.now) (length out.old)) result
         refusal.new out.old out.new (uniforms 64 randomness.now) }
 {
-    report(galmuriec::lanes::sample_uniform(randomness, out), refusal)
+    report(
+        galmuriec::message_lanes::sample_uniform(randomness, out),
+        refusal,
+    )
 }
 
 #[unsafe(no_mangle)]
@@ -271,7 +283,7 @@ pub extern "C" fn galmuriec_embed_msg(msg: &[u8], out: &mut [u64], refusal: &mut
     ensures { FillsC (asks.embed_msg (length msg.now) (length out.old)) result
         refusal.new out.old out.new (embed msg.now) }
 {
-    report(galmuriec::lanes::embed_msg(msg, out), refusal)
+    report(galmuriec::message_lanes::embed_msg(msg, out), refusal)
 }
 
 #[unsafe(no_mangle)]
@@ -283,7 +295,10 @@ pub extern "C" fn galmuriec_extract_msg(
     ensures { FillsC (asks.extract_msg embedding.now (length out.old)) result
         refusal.new out.old out.new (extract embedding.now) }
 {
-    report(galmuriec::lanes::extract_msg(embedding, out), refusal)
+    report(
+        galmuriec::message_lanes::extract_msg(embedding, out),
+        refusal,
+    )
 }
 
 // ---- hashes
@@ -296,7 +311,7 @@ pub extern "C" fn galmuriec_shake256(
     ensures { FillsC (asks.shake256 (length message.now) (length output.old)) result
         refusal.new output.old output.new (shake256 message.now (length output.old)) }
 {
-    report(galmuriec::hash::shake256(message, output), refusal)
+    report(galmuriec::hashes::shake256(message, output), refusal)
 }
 
 #[unsafe(no_mangle)]
@@ -308,7 +323,7 @@ pub extern "C" fn galmuriec_sha3_256(
     ensures { FillsC (asks.sha3_256 (length message.now) (length output.old)) result
         refusal.new output.old output.new (sha3_256 message.now) }
 {
-    report(galmuriec::hash::sha3_256(message, output), refusal)
+    report(galmuriec::hashes::sha3_256(message, output), refusal)
 }
 
 // ---- keys and packets

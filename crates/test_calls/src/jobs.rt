@@ -1,7 +1,7 @@
 // The job call.
 use crate::arguments::Bytes;
 use crate::question::{Place, Question};
-use crate::{arguments, packets, tell};
+use crate::{arguments, of_kem, tell};
 
 const JOBB: u64 = 0x6a6f_6262;
 
@@ -34,13 +34,13 @@ fn job(q: Question) -> Bytes {
     } else if q.call == JOBE {
         job_of(
             2,
-            arguments::joined(packets::public_key(q), 2080, randomness(q.second.seed)),
+            arguments::joined(of_kem::public_key(q), 2080, randomness(q.second.seed)),
         )
     } else {
-        let ciphertext = arguments::packed(packets::sealed(q));
+        let ciphertext = arguments::packed(of_kem::sealed(q));
         job_of(
             3,
-            arguments::joined(packets::secret_key(q.first.seed), 64, ciphertext),
+            arguments::joined(of_kem::secret_key(q.first.seed), 64, ciphertext),
         )
     }
 }

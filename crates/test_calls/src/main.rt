@@ -4,7 +4,7 @@
 
 mod arguments; // what an argument holds
 mod jobs; // the job call
-mod packets; // the kem's calls
+mod of_kem; // the kem's calls
 mod parts; // the calls of field, ring, lanes and hashes
 mod question; // a question, read
 mod tell; // an answer, written
@@ -21,7 +21,7 @@ fn answer_next() -> bool {
         return false;
     }
     let q = question::read(call);
-    if !parts::answer(q) && !packets::answer(q) && !jobs::answer(q) {
+    if !parts::answer(q) && !of_kem::answer(q) && !jobs::answer(q) {
         return false;
     }
     test_lines::end_line();

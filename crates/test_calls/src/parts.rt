@@ -52,39 +52,39 @@ const SHA3: u64 = 0x7368_6133;
 // A field call's values stand in the places of the first two seeds.
 fn field_call(call: u64, a: u64, b: u64) -> Given {
     if call == FNEW {
-        Given::Value(galmuriec::field::new(a))
+        Given::Value(galmuriec::prime_field::new(a))
     } else if call == FVAL {
-        galmuriec::field::value(a)
+        galmuriec::prime_field::value(a)
     } else if call == FADD {
-        galmuriec::field::add(a, b)
+        galmuriec::prime_field::add(a, b)
     } else if call == FSUB {
-        galmuriec::field::sub(a, b)
+        galmuriec::prime_field::sub(a, b)
     } else if call == FMUL {
-        galmuriec::field::mul(a, b)
+        galmuriec::prime_field::mul(a, b)
     } else if call == FNEG {
-        galmuriec::field::neg(a)
+        galmuriec::prime_field::neg(a)
     } else if call == FINV {
-        galmuriec::field::inverse(a)
+        galmuriec::prime_field::inverse(a)
     } else {
-        galmuriec::field::mod_pow(a, b)
+        galmuriec::prime_field::mod_pow(a, b)
     }
 }
 
 fn array_call(call: u64, array: &mut [u64]) -> Answer {
     if call == NTTF {
-        galmuriec::ring::coset_ntt_noswap_64(array)
+        galmuriec::ring_elements::coset_ntt_noswap_64(array)
     } else {
-        galmuriec::ring::coset_intt_noswap_64(array)
+        galmuriec::ring_elements::coset_intt_noswap_64(array)
     }
 }
 
 fn operands_call(call: u64, lhs: &[u64], rhs: &[u64], out: &mut [u64]) -> Answer {
     if call == RADD {
-        galmuriec::ring::add(lhs, rhs, out)
+        galmuriec::ring_elements::add(lhs, rhs, out)
     } else if call == RSUB {
-        galmuriec::ring::sub(lhs, rhs, out)
+        galmuriec::ring_elements::sub(lhs, rhs, out)
     } else if call == RMUL {
-        galmuriec::ring::mul(lhs, rhs, out)
+        galmuriec::ring_elements::mul(lhs, rhs, out)
     } else if call == MTCO {
         galmuriec::matrix::matrix_times_column(lhs, rhs, out)
     } else if call == RTMA {
@@ -96,19 +96,19 @@ fn operands_call(call: u64, lhs: &[u64], rhs: &[u64], out: &mut [u64]) -> Answer
 
 fn sampling_call(call: u64, bytes: &[u8], out: &mut [u64]) -> Answer {
     if call == SSHO {
-        galmuriec::lanes::sample_short(bytes, out)
+        galmuriec::message_lanes::sample_short(bytes, out)
     } else if call == SUNI {
-        galmuriec::lanes::sample_uniform(bytes, out)
+        galmuriec::message_lanes::sample_uniform(bytes, out)
     } else {
-        galmuriec::lanes::embed_msg(bytes, out)
+        galmuriec::message_lanes::embed_msg(bytes, out)
     }
 }
 
 fn hash_call(call: u64, message: &[u8], output: &mut [u8]) -> Answer {
     if call == SHAK {
-        galmuriec::hash::shake256(message, output)
+        galmuriec::hashes::shake256(message, output)
     } else {
-        galmuriec::hash::sha3_256(message, output)
+        galmuriec::hashes::sha3_256(message, output)
     }
 }
 
@@ -156,7 +156,7 @@ fn answer_hash(q: Question, message: &[u8]) {
 
 fn answer_of(q: Question, bytes: &[u8]) {
     if q.call == SBFE {
-        tell::given(galmuriec::lanes::sample_short_bfield_element(bytes));
+        tell::given(galmuriec::message_lanes::sample_short_bfield_element(bytes));
     } else if q.call == SHAK || q.call == SHA3 {
         answer_hash(q, bytes);
     } else {
@@ -173,7 +173,7 @@ fn answer_bytes(q: Question) {
 fn extract(q: Question, embedding: &[u64]) {
     let n = q.second.length % 9218;
     let mut out = arguments::bytes(q.second.seed);
-    let answer = galmuriec::lanes::extract_msg(embedding, &mut out[0..n]);
+    let answer = galmuriec::message_lanes::extract_msg(embedding, &mut out[0..n]);
     tell::filled_bytes(answer, out, n, q.second.seed);
 }
 
