@@ -1,11 +1,11 @@
 -- How an answer becomes what a caller in another language gets, and that two outcomes which a contract allows are the same.
-use mathlib.Core.Path.{◌≡◌, refl, sym, ap, ◌∙◌}
+use mathlib.Core.Path.{◌≡◌, refl, sym, ◌∙◌}
 use mathlib.Core.List.{List, [], ◌∷◌}
 use Prim.Native.Nat.{ℕ}
 use native.Mathlib.Omega.{arith}
 use Rattle.refusals.specs.Arguments.{Asked}
-use Rattle.refusals.specs.Judgement.{Told, No, gives, refuses, sign}
-use Rattle.refusals.specs.Answers.{paper, said, told, Lent, left, tells, Call}
+use Rattle.refusals.specs.Judgement.{Told, sign}
+use Rattle.refusals.specs.Answers.{paper, said, told, Lent, tells, Call}
 use Rattle.refusals.specs.declared.Refusal.{Refusal}
 use Rattle.refusals.specs.declared.Refusal.TheVariants.{Length, Coefficient, Differs, InverseOfZero, NoJob}
 use Rattle.refusals.specs.declared.Given.{Given}

@@ -1,10 +1,10 @@
 -- A number from its digits and back, in any base b.
-use mathlib.Core.Path.{◌≡◌, refl, sym, ap, ◌∙◌, subst}
-use mathlib.Core.Logic.{⊎_elim, ◌⊎◌, inl, inr}
-use Prim.Native.Nat.{ℕ, zero, suc, ◌+◌, ◌*◌, ◌-◌, ◌/◌, ◌%◌, ◌^◌, ◌≤◌, ◌<◌}
+use mathlib.Core.Path.{◌≡◌, sym, ap, ◌∙◌, subst}
+use mathlib.Core.Logic.{◌⊎◌, inl, inr}
+use Prim.Native.Nat.{ℕ, zero, suc, ◌+◌, ◌*◌, ◌-◌, ◌/◌, ◌%◌, ◌^◌, ◌<◌}
 use native.Mathlib.Nat.{one-le-pow, pow-zero, pow-suc, mod-lt, mod-eq_of_lt, mod-one, div-add-mod'}
-use native.Mathlib.Nat.{div-one, add-mul-mod_self_right, add-mul-div_right, div-eq_of_lt, add-zero, zero-add, mul-one}
-use native.Mathlib.Nat.{mul_comm, mul_assoc, mul-le-mul_right, not-suc-le-zero, eq-or-lt_of_le, le_of_suc-le-suc}
+use native.Mathlib.Nat.{add-mul-mod_self_right, add-mul-div_right, div-eq_of_lt, zero-add}
+use native.Mathlib.Nat.{mul_comm, mul-le-mul_right, not-suc-le-zero, eq-or-lt_of_le, le_of_suc-le-suc}
 use native.Mathlib.Omega.{arith}
 use lib.Pow.{pow-add}
 use Rattle.laws.specs.Digits.{digit, number}

@@ -1,8 +1,8 @@
 -- Fermat's theorem for a modulus m whose numbers but 0 are all powers of one of them: x ^ (m - 1) is 1 modulo m. That g is such a number is
 -- shown by one computed test over the prime factors of m - 1, each with the bound of its trial division; that m is prime is never asked.
 --
-use mathlib.Core.Path.{◌≡◌, refl, sym, ap, ◌∙◌, subst}
-use mathlib.Core.Bool.{Bool, true, false, not}
+use mathlib.Core.Path.{◌≡◌, sym, ap, ◌∙◌, subst}
+use mathlib.Core.Bool.{Bool, true, not}
 use mathlib.Core.List.{List, [], ◌∷◌}
 use mathlib.Core.Logic.{◌⊎◌, inl, inr}
 use Prim.Native.Nat.{ℕ, zero, suc, pred, ◌+◌, ◌*◌, ◌-◌, ◌/◌, ◌%◌, ◌^◌, ◌≤◌, ◌<◌}

@@ -7,7 +7,7 @@ use native.Mathlib.Decide.{dec_lt}
 use native.Mathlib.Omega.{arith}
 use lib.ListN.{length, get_or, take, drop, replicate, length-take, get_or-eq_default}
 use lib.Seq.{ext_get_or, take_at, get_or-take, get_or-drop}
-use Rattle.laws.specs.Lists.{tab, tab_from, Below}
+use Rattle.laws.specs.Lists.{tab, tab_from}
 
 module _ {A : Type 0} where
   length_from : (i n : ℕ) (f : ℕ → A) → length (tab_from i n f) ≡ n

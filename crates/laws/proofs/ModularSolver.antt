@@ -5,7 +5,7 @@
 --
 use mathlib.Core.Path.{◌≡◌, refl, sym, ap, ◌∙◌}
 use mathlib.Core.Bool.{Bool, true, false}
-use mathlib.Core.List.{List, [], ◌∷◌}
+use mathlib.Core.List.{List}
 use Prim.Native.Nat.{ℕ, zero, suc, ◌+◌, ◌*◌, ◌-◌, ◌%◌, ◌<◌}
 use native.Mathlib.Nat.{add-mul, zero-mul, zero-add, add_assoc, add_left_comm}
 use native.Mathlib.Omega.{P, patom, plit, padd, pmul, val, mono, nth, Sum, none, more, total, flat, flat_sound, arith}

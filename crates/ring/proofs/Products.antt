@@ -5,7 +5,7 @@ use mathlib.Core.List.{List}
 use Prim.Native.Nat.{ℕ, ◌+◌, ◌*◌, ◌-◌, ◌%◌, ◌<◌}
 use lib.Dec.{leb}
 use lib.ListN.{get_or, set}
-use Rattle.laws.specs.Rings.{sum, poly}
+use Rattle.laws.specs.Rings.{poly}
 use Rattle.laws.specs.Sums.{total}
 use Rattle.laws.proofs.Congruence.{mul_mod_l}
 use Rattle.laws.proofs.Assigned.{Assigned, assigned_step}

@@ -1,5 +1,4 @@
 -- `derive_matrix` draws G.
-use borrow.Author.Rules.{rules}
 use mathlib.Core.Path.{◌∙◌}
 use Rattle.lanes.specs.Samplers.{uniforms}
 use Rattle.packets.specs.Packets.{G}

@@ -1,5 +1,4 @@
 -- `deliver` reports the answer, and writes the number where one is given.
-use borrow.Author.Rules.{rules}
 use Rattle.galmuriec_c.proofs.Ends.{delivers_value, delivers_none}
 use Rattle.galmuriec_c.proofs.deliver.Goals as goal
 

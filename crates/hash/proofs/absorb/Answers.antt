@@ -1,11 +1,10 @@
 -- `absorb` has fed the first i bytes, block by block.
 use borrow.Author.Rules.{rules}
 use native.Mathlib.Omega.{arith}
-use Prim.Native.Nat.{ℕ, ◌+◌, ◌-◌, ◌≤◌, ◌<◌}
+use Prim.Native.Nat.{ℕ, ◌+◌, ◌-◌, ◌≤◌}
 use mathlib.Core.Path.{◌≡◌, sym, ◌∙◌, ap}
 use lib.ListN.{length}
 use lib.ListN.{take}
-use lib.Seq.{take_all}
 use Rattle.hash.specs.Running.{run, turn, feed}
 use mathlib.Core.List.{List}
 use Rattle.laws.specs.Lists.{part}
@@ -33,12 +32,11 @@ unfolding feed
 loop-i-init c = search rules
 
 pub loop-i-preserved-then-at-rate : goal.loop-i-preserved-then-at-rate
-loop-i-preserved-then-at-rate c =
-    (
-      omega arith,
-      ap (λ (l : List ℕ). run l 0) c.permute.ensures ∙ sym (turn_yes _ _ _ c.if-at-rate.true) ∙ fed (goal.at.loop-i-preserved-then-at-rate c).After-add_part,
-      omega arith,
-    )
+loop-i-preserved-then-at-rate c = (
+  omega arith,
+  ap (λ (l : List ℕ). run l 0) c.permute.ensures ∙ sym (turn_yes _ _ _ c.if-at-rate.true) ∙ fed (goal.at.loop-i-preserved-then-at-rate c).After-add_part,
+  omega arith,
+)
 
 pub loop-i-preserved : goal.loop-i-preserved
 loop-i-preserved c = (omega arith, sym (turn_no _ _ _ c.if-at-rate.false) ∙ fed (goal.at.loop-i-preserved c).After-add_part, omega arith)

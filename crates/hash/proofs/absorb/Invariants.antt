@@ -1,15 +1,9 @@
 -- `absorb` has fed the first i bytes, block by block.
-use borrow.Author.Rules.{rules}
-use native.Mathlib.Omega.{arith}
-use Prim.Native.Nat.{ℕ, ◌+◌, ◌-◌, ◌≤◌, ◌<◌}
-use mathlib.Core.Path.{◌≡◌, sym, ◌∙◌, ap}
+use Prim.Native.Nat.{◌-◌, ◌≤◌, ◌<◌}
+use mathlib.Core.Path.{◌≡◌}
 use lib.ListN.{length}
 use lib.ListN.{take}
-use lib.Seq.{take_all}
-use Rattle.hash.specs.Running.{run, turn, feed}
-use mathlib.Core.List.{List}
-use Rattle.laws.specs.Lists.{part}
-use Rattle.hash.proofs.Cuts.{feed-step, turn_yes, turn_no}
+use Rattle.hash.specs.Running.{run, feed}
 use Rattle.hash.proofs.absorb.Given as goal
 
 abbrev pub invariant-loop-i : goal.invariant-loop-i

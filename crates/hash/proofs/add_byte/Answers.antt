@@ -1,7 +1,5 @@
 -- `add_byte` adds one byte into its lane.
 use native.Mathlib.Omega.{arith}
-use Prim.Native.Nat.{◌-◌}
-use borrow.Author.Rules.{rules}
 use Rattle.hash.proofs.Copies.{xor_stored}
 use Rattle.hash.proofs.add_byte.Goals as goal
 

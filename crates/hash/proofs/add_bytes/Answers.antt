@@ -1,11 +1,6 @@
 -- `add_bytes` has added i bytes after i turns.
 use borrow.Author.Rules.{rules}
 use native.Mathlib.Omega.{arith}
-use Prim.Native.Nat.{◌-◌, ◌≤◌}
-use mathlib.Core.Path.{◌≡◌, ◌∙◌, ap}
-use lib.ListN.{length}
-use lib.ListN.{take}
-use lib.Seq.{take_all}
 use Rattle.hash.specs.Running.{xor_bytes}
 use Rattle.hash.proofs.Words.{xor_more}
 use Rattle.hash.proofs.add_bytes.Goals as goal

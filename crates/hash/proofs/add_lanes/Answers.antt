@@ -1,10 +1,9 @@
 -- `add_lanes` has added i bytes, whole lanes, after each turn.
 use borrow.Author.Rules.{rules}
 use native.Mathlib.Omega.{arith}
-use Prim.Native.Nat.{◌+◌, ◌-◌, ◌≤◌, ◌%◌}
-use mathlib.Core.Path.{◌≡◌, ◌∙◌, ap}
-use lib.ListN.{length, take}
-use lib.Seq.{take_all}
+use Prim.Native.Nat.{◌+◌, ◌≤◌, ◌%◌}
+use mathlib.Core.Path.{◌≡◌}
+use lib.ListN.{length}
 use Rattle.hash.specs.Running.{xor_bytes}
 use Rattle.hash.proofs.Words.{xor_lane_more}
 use Rattle.hash.proofs.add_lanes.Goals as goal

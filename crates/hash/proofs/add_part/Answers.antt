@@ -3,7 +3,6 @@ use native.Mathlib.Omega.{arith}
 use Prim.Native.Nat.{ℕ, ◌*◌, ◌-◌, ◌≤◌, ◌/◌}
 use mathlib.Core.Path.{ap}
 use lib.ListN.{length}
-use borrow.Author.Rules.{rules}
 use lib.ListN.{take, drop, length-drop}
 use lib.Seq.{take_all}
 use native.Mathlib.Nat.{sub-zero, le_of_eq}

@@ -1,10 +1,8 @@
 -- `copy_bytes` has copied i bytes after i turns.
-use borrow.Author.Rules.{rules}
 use Prim.Native.Nat.{◌+◌, ◌-◌, ◌≤◌}
-use mathlib.Core.Path.{refl}
 use lib.ListN.{length}
-use Rattle.laws.proofs.Updates.{Filled, mapped_none, mapped_more, mapped_end}
-use Rattle.hash.specs.Running.{byte_of, bytes_from}
+use Rattle.laws.proofs.Updates.{Filled}
+use Rattle.hash.specs.Running.{byte_of}
 use Rattle.hash.proofs.copy_bytes.Given as goal
 
 abbrev pub invariant-loop-i : goal.invariant-loop-i

@@ -1,11 +1,11 @@
 -- `copy_lanes` has copied i bytes, whole lanes, after each turn.
 use borrow.Author.Rules.{rules}
 use native.Mathlib.Omega.{arith}
-use Prim.Native.Nat.{◌+◌, ◌-◌, ◌≤◌, ◌%◌}
+use Prim.Native.Nat.{◌+◌, ◌≤◌, ◌%◌}
 use mathlib.Core.Path.{◌≡◌, refl}
 use lib.ListN.{length}
-use Rattle.laws.proofs.Updates.{Filled, mapped_none, mapped_end}
-use Rattle.hash.specs.Running.{byte_of, bytes_from}
+use Rattle.laws.proofs.Updates.{mapped_end}
+use Rattle.hash.specs.Running.{bytes_from}
 use Rattle.hash.proofs.Copies.{lane_filled}
 use Rattle.hash.proofs.copy_lanes.Goals as goal
 

@@ -1,12 +1,9 @@
 -- `copy_lanes` has copied i bytes, whole lanes, after each turn.
-use borrow.Author.Rules.{rules}
-use native.Mathlib.Omega.{arith}
 use Prim.Native.Nat.{◌+◌, ◌-◌, ◌≤◌, ◌%◌}
-use mathlib.Core.Path.{◌≡◌, refl}
+use mathlib.Core.Path.{◌≡◌}
 use lib.ListN.{length}
-use Rattle.laws.proofs.Updates.{Filled, mapped_none, mapped_end}
-use Rattle.hash.specs.Running.{byte_of, bytes_from}
-use Rattle.hash.proofs.Copies.{lane_filled}
+use Rattle.laws.proofs.Updates.{Filled}
+use Rattle.hash.specs.Running.{byte_of}
 use Rattle.hash.proofs.copy_lanes.Given as goal
 
 abbrev pub invariant-loop-i : goal.invariant-loop-i

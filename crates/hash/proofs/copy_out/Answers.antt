@@ -1,6 +1,5 @@
 -- `copy_out` copies whole lanes and then bytes, as two parts of the slice; or bytes alone.
 use native.Mathlib.Omega.{arith}
-use Prim.Native.Nat.{◌-◌}
 use mathlib.Core.Path.{refl}
 use borrow.Author.Rules.{rules}
 use lib.ListN.{length-take, length-drop}

@@ -1,12 +1,11 @@
 -- `copy_state` has copied i bytes, whole lanes, after each turn.
 use borrow.Author.Rules.{rules}
 use native.Mathlib.Omega.{arith}
-use Prim.Native.Nat.{◌+◌, ◌-◌, ◌≤◌, ◌%◌}
-use mathlib.Core.Path.{◌≡◌, refl, ap}
+use Prim.Native.Nat.{◌+◌, ◌≤◌}
+use mathlib.Core.Path.{refl}
 use lib.ListN.{length}
-use Rattle.laws.proofs.Updates.{Filled, mapped_none, mapped_end}
-use Rattle.keccak.specs.Pairs.{state}
-use Rattle.hash.specs.Running.{byte_of, bytes_from}
+use Rattle.laws.proofs.Updates.{mapped_end}
+use Rattle.hash.specs.Running.{bytes_from}
 use Rattle.hash.proofs.Steps.{state_filled}
 use Rattle.hash.proofs.copy_state.Goals as goal
 

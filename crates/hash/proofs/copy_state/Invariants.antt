@@ -1,13 +1,10 @@
 -- `copy_state` has copied i bytes, whole lanes, after each turn.
-use borrow.Author.Rules.{rules}
-use native.Mathlib.Omega.{arith}
 use Prim.Native.Nat.{◌+◌, ◌-◌, ◌≤◌, ◌%◌}
-use mathlib.Core.Path.{◌≡◌, refl, ap}
+use mathlib.Core.Path.{◌≡◌}
 use lib.ListN.{length}
-use Rattle.laws.proofs.Updates.{Filled, mapped_none, mapped_end}
+use Rattle.laws.proofs.Updates.{Filled}
 use Rattle.keccak.specs.Pairs.{state}
-use Rattle.hash.specs.Running.{byte_of, bytes_from}
-use Rattle.hash.proofs.Steps.{state_filled}
+use Rattle.hash.specs.Running.{byte_of}
 use Rattle.hash.proofs.copy_state.Given as goal
 
 abbrev pub invariant-loop-i : goal.invariant-loop-i

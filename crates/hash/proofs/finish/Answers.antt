@@ -1,7 +1,6 @@
 -- `finish` adds the suffix's byte and the last bit.
 use Prim.Native.Nat.{ℕ, ◌-◌}
 use mathlib.Core.Path.{◌∙◌, ap}
-use borrow.Author.Rules.{rules}
 use Rattle.hash.specs.Running.{run, closed, xor_byte}
 use mathlib.Core.List.{List}
 use Rattle.hash.proofs.finish.Goals as goal

@@ -1,7 +1,6 @@
 -- `next_block` permutes where both want bytes, and then nobody sees it.
 use native.Mathlib.Omega.{arith}
-use borrow.Author.Rules.{rules}
-use Rattle.hash.proofs.Steps.{alike_self, alike_turned}
+use Rattle.hash.proofs.Steps.{alike_turned}
 use Rattle.hash.proofs.next_block.Goals as goal
 
 pub returns-then-shorter-gt0-clause-alike : goal.returns-then-shorter-gt0-clause-alike

@@ -1,7 +1,5 @@
 -- `sha3_256` is FIPS 202's, by the law on the running sponge.
-use Prim.Native.Nat.{◌-◌}
 use mathlib.Core.Path.{◌∙◌, ap}
-use borrow.Author.Rules.{rules}
 use Rattle.hash.specs.Running.{hashed}
 use Rattle.hash.proofs.Hashes.{hashed_sha3_256}
 use Rattle.hash.proofs.sha3_256.Goals as goal

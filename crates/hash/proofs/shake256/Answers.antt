@@ -1,7 +1,5 @@
 -- `shake256` is FIPS 202's, by the law on the running sponge.
-use Prim.Native.Nat.{◌-◌}
 use mathlib.Core.Path.{◌∙◌}
-use borrow.Author.Rules.{rules}
 use Rattle.hash.proofs.Hashes.{hashed-shake256}
 use Rattle.hash.proofs.shake256.Goals as goal
 

@@ -1,6 +1,5 @@
 -- `shake256_start` closes the message as SHAKE256 does.
 use mathlib.Core.Path.{◌∙◌, ap}
-use borrow.Author.Rules.{rules}
 use Rattle.hash.specs.Running.{drawn, hashed}
 use Rattle.hash.proofs.Hashes.{hashed-shake256}
 use Rattle.hash.proofs.shake256_start.Goals as goal

@@ -1,8 +1,6 @@
 -- `sponge` feeds and draws.
-use Prim.Native.Nat.{◌-◌}
 use mathlib.Core.Path.{◌∙◌, ap}
 use lib.ListN.{length}
-use borrow.Author.Rules.{rules}
 use Rattle.hash.specs.Running.{drawn, hashed}
 use Rattle.hash.proofs.sponge.Goals as goal
 

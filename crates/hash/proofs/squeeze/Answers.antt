@@ -1,16 +1,12 @@
 -- `squeeze` has drawn the first i bytes, and the state is what is then left.
 use borrow.Author.Rules.{rules}
 use native.Mathlib.Omega.{arith}
-use Prim.Native.Nat.{ℕ, ◌+◌, ◌-◌, ◌≤◌, ◌<◌}
+use Prim.Native.Nat.{◌+◌, ◌≤◌}
 use mathlib.Core.Path.{◌≡◌, sym, ◌∙◌, ap}
-use mathlib.Core.Logic.{⊎_elim}
-use lib.ListN.{length}
-use mathlib.Core.List.{◌++◌}
-use lib.ListN.{drop}
 use Rattle.hash.specs.Running.{run, ready, drawn, rest}
 use lib.ListN.{length-take, length-drop}
 use native.Mathlib.Nat.{add-sub_cancel_left}
-use Rattle.hash.proofs.Cuts.{turn_yes, turn_no, rest-step, draw_step, drawn-all}
+use Rattle.hash.proofs.Cuts.{turn_yes, turn_no, rest-step, draw_step}
 use Rattle.hash.proofs.squeeze.Goals as goal
 use Rattle.hash.proofs.squeeze.Goals.{Joined-at-rate, else-at-rate, then-at-rate}
 
@@ -19,7 +15,7 @@ readied : (c : Joined-at-rate)
 unfolding ready
 readied c =
     elim c.if-at-rate.branch [
-      then-at-rate w ↦ turn_yes _ _ _ w.if-at-rate.true ∙ (λ j. run (sym (w.lanes-is ∙ w.permute.ensures) j) (sym w.at-is j))
+      | then-at-rate w ↦ turn_yes _ _ _ w.if-at-rate.true ∙ (λ j. run (sym (w.lanes-is ∙ w.permute.ensures) j) (sym w.at-is j))
       | else-at-rate w ↦ turn_no _ _ _ w.if-at-rate.false ∙ (λ j. run (sym w.lanes-is j) (sym w.at-is j))
     ]
 

@@ -1,14 +1,9 @@
 -- `squeeze_blocks` has drawn i bytes of both states, whole blocks.
 use borrow.Author.Rules.{rules}
 use native.Mathlib.Omega.{arith}
-use Prim.Native.Nat.{◌-◌, ◌≤◌}
-use mathlib.Core.Path.{◌≡◌}
-use lib.ListN.{length}
-use Rattle.keccak.specs.Pairs.{state}
-use Rattle.hash.specs.Running.{run}
 use lib.ListN.{length-take, length-drop}
 use native.Mathlib.Nat.{add-sub_cancel_left}
-use Rattle.hash.proofs.Steps.{Whole, whole_none, whole_more, whole_length, begun_whole}
+use Rattle.hash.proofs.Steps.{whole_none, whole_more, whole_length}
 use Rattle.hash.proofs.squeeze_blocks.Goals as goal
 
 pub loop-i-init : goal.loop-i-init

@@ -1,6 +1,5 @@
 -- `squeeze_two` draws both in step, and then the rest of each alone.
 use native.Mathlib.Omega.{arith}
-use borrow.Author.Rules.{rules}
 use lib.ListN.{length-take, length-drop}
 use Rattle.hash.proofs.Steps.{begun_end}
 use Rattle.hash.proofs.squeeze_two.Goals as goal

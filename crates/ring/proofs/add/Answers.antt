@@ -1,9 +1,6 @@
 -- `add` adds, coefficient by coefficient.
-use borrow.Author.Rules.{rules}
 use native.Mathlib.Omega.{arith}
-use Prim.Native.Nat.{◌+◌, ◌-◌, ◌%◌}
-use Rattle.laws.proofs.Assigned.{Assigned, assigned_none, assigned_more, assigned_all, below_at}
-use Rattle.field.specs.Field.{P}
+use Rattle.laws.proofs.Assigned.{assigned_all}
 use Rattle.ring.specs.Elements.{plus}
 use Rattle.ring.proofs.add.Goals as goal
 

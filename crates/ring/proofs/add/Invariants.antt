@@ -1,10 +1,7 @@
 -- `add` adds, coefficient by coefficient.
-use borrow.Author.Rules.{rules}
-use native.Mathlib.Omega.{arith}
 use Prim.Native.Nat.{◌+◌, ◌-◌, ◌%◌}
-use Rattle.laws.proofs.Assigned.{Assigned, assigned_none, assigned_more, assigned_all, below_at}
+use Rattle.laws.proofs.Assigned.{Assigned}
 use Rattle.field.specs.Field.{P}
-use Rattle.ring.specs.Elements.{plus}
 use Rattle.ring.proofs.add.Given as goal
 
 abbrev pub invariant-loop-i : goal.invariant-loop-i

@@ -1,11 +1,8 @@
 -- `add_assign` adds, coefficient by coefficient.
-use borrow.Author.Rules.{rules}
 use native.Mathlib.Omega.{arith}
-use Prim.Native.Nat.{◌+◌, ◌-◌, ◌%◌}
 use mathlib.Core.Path.{refl}
-use Rattle.field.specs.Field.{P}
 use Rattle.ring.specs.Elements.{plus}
-use Rattle.laws.proofs.Assigned.{Assigned, assigned_none, assigned_left, assigned_step, assigned_all, below_at}
+use Rattle.laws.proofs.Assigned.{assigned_all}
 use Rattle.ring.proofs.add_assign.Goals as goal
 
 pub returns : goal.returns

@@ -1,13 +1,8 @@
 -- `butterflies` does the t butterflies of one block.
-use borrow.Author.Rules.{rules}
-use native.Mathlib.Nat.{le_of_lt}
-use native.Mathlib.Omega.{arith}
 use Prim.Native.Nat.{◌-◌}
-use lib.ListN.{length-set}
 use Rattle.field.specs.Element.{num}
 use Rattle.ring.specs.Stages.{sum_of, difference_of}
-use Rattle.ring.proofs.Blocks.{Turned, turned_none, turned_low, turned_all}
-use Rattle.ring.proofs.Forward.{turned_forward}
+use Rattle.ring.proofs.Blocks.{Turned}
 use Rattle.ring.proofs.butterflies.Given as goal
 
 abbrev pub invariant-loop-j : goal.invariant-loop-j

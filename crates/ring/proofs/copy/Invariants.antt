@@ -1,10 +1,8 @@
 -- `copy` copies.
-use borrow.Author.Rules.{rules}
-use native.Mathlib.Omega.{arith}
 use Prim.Native.Nat.{◌-◌, ◌≤◌}
-use mathlib.Core.Path.{◌≡◌, refl}
+use mathlib.Core.Path.{◌≡◌}
 use lib.ListN.{length, get_or}
-use Rattle.laws.proofs.Updates.{Filled, mapped_none, mapped_more, copied}
+use Rattle.laws.proofs.Updates.{Filled}
 use Rattle.ring.proofs.copy.Given as goal
 
 abbrev pub invariant-loop-i : goal.invariant-loop-i

@@ -1,8 +1,6 @@
 -- `coset_ntt_noswap_four` transforms one element a turn.
-use borrow.Author.Rules.{rules}
-use native.Mathlib.Omega.{arith}
 use Prim.Native.Nat.{◌-◌}
-use Rattle.ring.proofs.Cells.{Transformed, transformed_none, transformed_next, transformed_more, transformed_all}
+use Rattle.ring.proofs.Cells.{Transformed}
 use Rattle.ring.proofs.coset_ntt_noswap_four.Given as goal
 
 abbrev pub invariant-loop-i : goal.invariant-loop-i

@@ -1,11 +1,7 @@
 -- `hadamard_assign` multiplies, entry by entry.
-use borrow.Author.Rules.{rules}
 use native.Mathlib.Omega.{arith}
-use Prim.Native.Nat.{◌*◌, ◌-◌, ◌%◌}
-use Rattle.field.specs.Field.{P}
 use Rattle.ring.specs.Elements.{hadamard}
-use Rattle.laws.proofs.Assigned.{Assigned, assigned_none, assigned_all}
-use Rattle.ring.proofs.Products.{multiplied_more}
+use Rattle.laws.proofs.Assigned.{assigned_all}
 use Rattle.ring.proofs.hadamard_assign.Goals as goal
 
 pub returns : goal.returns

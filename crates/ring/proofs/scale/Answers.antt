@@ -1,10 +1,6 @@
 -- `scale` multiplies each of 64 numbers.
-use borrow.Author.Rules.{rules}
 use native.Mathlib.Omega.{arith}
-use Prim.Native.Nat.{◌*◌, ◌-◌, ◌≤◌, ◌%◌}
-use Rattle.laws.proofs.Updates.{Mapped, mapped_none, mapped_step, mapped_end}
-use Rattle.field.specs.Field.{P}
-use Rattle.field.specs.Element.{num}
+use Rattle.laws.proofs.Updates.{mapped_end}
 use Rattle.ring.specs.Stages.{scaled}
 use Rattle.ring.proofs.scale.Goals as goal
 

@@ -1,11 +1,8 @@
 -- `scale` multiplies each of 64 numbers.
-use borrow.Author.Rules.{rules}
-use native.Mathlib.Omega.{arith}
 use Prim.Native.Nat.{◌*◌, ◌-◌, ◌≤◌, ◌%◌}
-use Rattle.laws.proofs.Updates.{Mapped, mapped_none, mapped_step, mapped_end}
+use Rattle.laws.proofs.Updates.{Mapped}
 use Rattle.field.specs.Field.{P}
 use Rattle.field.specs.Element.{num}
-use Rattle.ring.specs.Stages.{scaled}
 use Rattle.ring.proofs.scale.Given as goal
 
 abbrev pub invariant-loop-i : goal.invariant-loop-i

@@ -1,10 +1,8 @@
 -- `unstage` is `backward`, block by block.
 use borrow.Author.Rules.{rules}
 use native.Mathlib.Omega.{arith}
-use Prim.Native.Nat.{◌+◌, ◌*◌, ◌-◌, ◌≤◌}
 use Rattle.ring.specs.Stages.{backward}
-use Rattle.ring.proofs.Blocks.{Staged, staged_none, staged_canonical, staged_room, staged_more, staged_all}
-use Rattle.ring.proofs.Backward.{back}
+use Rattle.ring.proofs.Blocks.{staged_more, staged_all}
 use Rattle.ring.proofs.unstage.Goals as goal
 use Rattle.ring.proofs.unstage.Goals.{In-loop-i}
 

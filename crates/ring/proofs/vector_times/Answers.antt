@@ -1,11 +1,8 @@
 -- `vector_times` makes its result element after element, place after place.
-use borrow.Author.Rules.{rules}
 use native.Mathlib.Omega.{arith}
-use Prim.Native.Nat.{ℕ, ◌+◌, ◌*◌, ◌-◌, ◌≤◌}
-use mathlib.Core.Path.{◌≡◌, refl, sym, ◌∙◌}
-use lib.ListN.{length}
-use Rattle.ring.proofs.Cells.{Flattened, flattened_none, flattened_at, flattened_more, flattened_all}
-use Rattle.ring.proofs.Dots.{times, dot_four, element-fits}
+use mathlib.Core.Path.{refl}
+use Rattle.ring.proofs.Cells.{flattened_more, flattened_all}
+use Rattle.ring.proofs.Dots.{dot_four}
 use Rattle.ring.proofs.vector_times.Goals as goal
 use Rattle.ring.proofs.vector_times.Goals.{In-places}
 

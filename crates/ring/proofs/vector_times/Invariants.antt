@@ -1,11 +1,7 @@
 -- `vector_times` makes its result element after element, place after place.
-use borrow.Author.Rules.{rules}
-use native.Mathlib.Omega.{arith}
-use Prim.Native.Nat.{ℕ, ◌+◌, ◌*◌, ◌-◌, ◌≤◌}
-use mathlib.Core.Path.{◌≡◌, refl, sym, ◌∙◌}
-use lib.ListN.{length}
-use Rattle.ring.proofs.Cells.{Flattened, flattened_none, flattened_at, flattened_more, flattened_all}
-use Rattle.ring.proofs.Dots.{times, dot_four, element-fits}
+use Prim.Native.Nat.{◌+◌, ◌*◌, ◌-◌, ◌≤◌}
+use Rattle.ring.proofs.Cells.{Flattened}
+use Rattle.ring.proofs.Dots.{times}
 use Rattle.ring.proofs.vector_times.Given as goal
 
 abbrev pub invariant-places : goal.invariant-places
