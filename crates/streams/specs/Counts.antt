@@ -1,4 +1,4 @@
--- How many bytes reading or writing may say that it moved, of a buffer of m bytes. Which bytes they are no contract can say.
+-- How many bytes reading or writing may say that it moved, of a buffer of m bytes. Which bytes come from or go to the system no contract can say.
 use Rattle.std.specs.Prelude.{◌≡◌, ℕ, ◌≤◌}
 use Rattle.streams.specs.declared.Moved.{Moved}
 use Rattle.streams.specs.declared.Moved.TheVariants.{Bytes, Failed, Waited}
