@@ -11,21 +11,21 @@ mod of_ring;
 const MOST: u64 = 100_000_000;
 
 // Reads and answers one question; false where there is none left, or an unknown one.
-fn answer_next() -> bool {
-    let op = test_lines::read_name();
-    if !of_field::answer(op)
-        && !of_ring::answer(op)
-        && !of_lanes::answer(op)
-        && !of_kem::answer(op)
+fn answer_next(rt: &HostRuntime) -> bool {
+    let op = test_lines::read_name(rt);
+    if !of_field::answer(rt, op)
+        && !of_ring::answer(rt, op)
+        && !of_lanes::answer(rt, op)
+        && !of_kem::answer(rt, op)
     {
         return false;
     }
-    test_lines::read_end()
+    test_lines::read_end(rt)
 }
 
-fn main() {
+fn main(rt: HostRuntime) {
     let mut asked: u64 = 0;
-    while asked < MOST && answer_next() {
+    while asked < MOST && answer_next(&rt) {
         asked += 1;
     }
 }

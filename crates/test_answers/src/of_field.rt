@@ -1,6 +1,5 @@
 // Questions on the field.
 use field::{BFieldElement, Inverted};
-use libc::STDOUT_FILENO;
 
 const NEW: u64 = 0x6e65_7720;
 
@@ -18,24 +17,24 @@ const INV: u64 = 0x696e_7620;
 
 const POW: u64 = 0x706f_7720;
 
-fn tell_inverse(a: u64) {
+fn tell_inverse(rt: &HostRuntime, a: u64) {
     let answer = BFieldElement::new(a).inverse();
     let Inverted::Inverse(e) = answer else {
-        io::write_all(STDOUT_FILENO, b"refused---------\n");
+        test_lines::put(rt, "refused---------\n");
         return;
     };
-    test_lines::tell(e.value());
+    test_lines::tell(rt, e.value());
 }
 
 // One operand.
-fn answer_one(op: u64) {
-    let a = test_lines::read_digits(16);
+fn answer_one(rt: &HostRuntime, op: u64) {
+    let a = test_lines::read_digits(rt, 16);
     if op == NEG {
-        test_lines::tell(BFieldElement::new(a).neg().value());
+        test_lines::tell(rt, BFieldElement::new(a).neg().value());
     } else if op == INV {
-        tell_inverse(a);
+        tell_inverse(rt, a);
     } else {
-        test_lines::tell(BFieldElement::new(a).value());
+        test_lines::tell(rt, BFieldElement::new(a).value());
     }
 }
 
@@ -54,18 +53,18 @@ fn of_two(op: u64, a: u64, b: u64) -> u64 {
 }
 
 // Two operands.
-fn answer_two(op: u64) {
-    let a = test_lines::read_digits(16);
-    let b = test_lines::read_digits(16);
-    test_lines::tell(of_two(op, a, b));
+fn answer_two(rt: &HostRuntime, op: u64) {
+    let a = test_lines::read_digits(rt, 16);
+    let b = test_lines::read_digits(rt, 16);
+    test_lines::tell(rt, of_two(op, a, b));
 }
 
 // False where the word is none of these.
-pub fn answer(op: u64) -> bool {
+pub fn answer(rt: &HostRuntime, op: u64) -> bool {
     if op == NEW || op == VAL || op == NEG || op == INV {
-        answer_one(op);
+        answer_one(rt, op);
     } else if op == ADD || op == SUB || op == MUL || op == POW {
-        answer_two(op);
+        answer_two(rt, op);
     } else {
         return false;
     }

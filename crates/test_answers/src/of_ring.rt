@@ -20,93 +20,93 @@ const RMAT: u64 = 0x726d_6174;
 const RCOL: u64 = 0x7263_6f6c;
 
 // One ring element.
-fn answer_transform(op: u64) {
+fn answer_transform(rt: &HostRuntime, op: u64) {
     let mut a = [0u64; 64];
-    test_lines::read_numbers(&mut a);
+    test_lines::read_numbers(rt, &mut a);
     if op == NTT {
         ring::coset_ntt_noswap_64(&mut a);
-        test_lines::tell_all(&a);
+        test_lines::tell_all(rt, &a);
     } else {
         ring::coset_intt_noswap_64(&mut a);
-        test_lines::tell_all(&a);
+        test_lines::tell_all(rt, &a);
     }
 }
 
-fn tell_pair(op: u64, a: &[u64], b: &[u64])
+fn tell_pair(rt: &HostRuntime, op: u64, a: &[u64], b: &[u64])
     requires { Coefficients 64 a.now × Coefficients 64 b.now }
 {
     let mut out = [0u64; 64];
     if op == RADD {
         ring::add(a, b, &mut out);
-        test_lines::tell_all(&out);
+        test_lines::tell_all(rt, &out);
     } else if op == RSUB {
         ring::sub(a, b, &mut out);
-        test_lines::tell_all(&out);
+        test_lines::tell_all(rt, &out);
     } else {
         ring::multiply(a, b, &mut out);
-        test_lines::tell_all(&out);
+        test_lines::tell_all(rt, &out);
     }
 }
 
 // Two ring elements.
-fn answer_pair(op: u64) {
+fn answer_pair(rt: &HostRuntime, op: u64) {
     let mut a = [0u64; 64];
     let mut b = [0u64; 64];
-    test_lines::read_numbers(&mut a);
-    test_lines::read_numbers(&mut b);
+    test_lines::read_numbers(rt, &mut a);
+    test_lines::read_numbers(rt, &mut b);
     if op == HADA {
         ring::hadamard_assign(&mut a, &b);
-        test_lines::tell_all(&a);
+        test_lines::tell_all(rt, &a);
     } else {
-        tell_pair(op, &a, &b);
+        tell_pair(rt, op, &a, &b);
     }
 }
 
 // A matrix and a column.
-fn answer_column() {
+fn answer_column(rt: &HostRuntime) {
     let mut g = [0u64; 1024];
     let mut v = [0u64; 256];
     let mut out = [0u64; 256];
-    test_lines::read_numbers(&mut g);
-    test_lines::read_numbers(&mut v);
+    test_lines::read_numbers(rt, &mut g);
+    test_lines::read_numbers(rt, &mut v);
     ring::matrix_times_column(&g, &v, &mut out);
-    test_lines::tell_all(&out);
+    test_lines::tell_all(rt, &out);
 }
 
 // A row and a matrix.
-fn answer_row() {
+fn answer_row(rt: &HostRuntime) {
     let mut v = [0u64; 256];
     let mut g = [0u64; 1024];
     let mut out = [0u64; 256];
-    test_lines::read_numbers(&mut v);
-    test_lines::read_numbers(&mut g);
+    test_lines::read_numbers(rt, &mut v);
+    test_lines::read_numbers(rt, &mut g);
     ring::row_times_matrix(&v, &g, &mut out);
-    test_lines::tell_all(&out);
+    test_lines::tell_all(rt, &out);
 }
 
 // A row and a column.
-fn answer_single() {
+fn answer_single(rt: &HostRuntime) {
     let mut u = [0u64; 256];
     let mut v = [0u64; 256];
     let mut out = [0u64; 64];
-    test_lines::read_numbers(&mut u);
-    test_lines::read_numbers(&mut v);
+    test_lines::read_numbers(rt, &mut u);
+    test_lines::read_numbers(rt, &mut v);
     ring::row_times_column(&u, &v, &mut out);
-    test_lines::tell_all(&out);
+    test_lines::tell_all(rt, &out);
 }
 
 // False where the word is none of these.
-pub fn answer(op: u64) -> bool {
+pub fn answer(rt: &HostRuntime, op: u64) -> bool {
     if op == NTT || op == INTT {
-        answer_transform(op);
+        answer_transform(rt, op);
     } else if op == RADD || op == RSUB || op == RMUL || op == HADA {
-        answer_pair(op);
+        answer_pair(rt, op);
     } else if op == MCOL {
-        answer_column();
+        answer_column(rt);
     } else if op == RMAT {
-        answer_row();
+        answer_row(rt);
     } else if op == RCOL {
-        answer_single();
+        answer_single(rt);
     } else {
         return false;
     }

@@ -9,8 +9,6 @@
 
 ghost use Rattle.std.specs.Prelude.{◌≤◌};
 
-use libc::{STDIN_FILENO, STDOUT_FILENO};
-
 // No run has more questions.
 const MOST: usize = 100_000;
 
@@ -32,9 +30,9 @@ fn least(a: usize, b: usize) -> usize
     if a < b { a } else { b }
 }
 
-fn read_size() -> usize {
+fn read_size(rt: &HostRuntime) -> usize {
     let mut text = [0u8; 7];
-    io::read_full(STDIN_FILENO, &mut text);
+    test_lines::read_full(rt, &mut text);
     let size = test_lines::digit(text[1]) * 10000
         + test_lines::digit(text[2]) * 1000
         + test_lines::digit(text[3]) * 100
@@ -43,84 +41,84 @@ fn read_size() -> usize {
     size as usize
 }
 
-fn read_byte() -> u8 {
+fn read_byte(rt: &HostRuntime) -> u8 {
     let mut digits = [0u8; 2];
-    io::read_full(STDIN_FILENO, &mut digits);
+    test_lines::read_full(rt, &mut digits);
     test_lines::byte(digits[0], digits[1])
 }
 
-fn read_message(message: &mut [u8]) {
+fn read_message(rt: &HostRuntime, message: &mut [u8]) {
     for i in 0..message.len() {
-        message[i] = read_byte();
+        message[i] = read_byte(rt);
     }
-    test_lines::read_end();
+    test_lines::read_end(rt);
 }
 
-fn tell_ends(bytes: &[u8]) {
+fn tell_ends(rt: &HostRuntime, bytes: &[u8]) {
     let n = bytes.len();
     if n <= 64 {
-        test_lines::run(bytes);
+        test_lines::run(rt, bytes);
     } else {
         let from = n - 32;
-        test_lines::run(&bytes[0..32]);
-        io::write_all(STDOUT_FILENO, b"..");
-        test_lines::run(&bytes[from..n]);
+        test_lines::run(rt, &bytes[0..32]);
+        test_lines::put(rt, "..");
+        test_lines::run(rt, &bytes[from..n]);
     }
 }
 
-fn answer_sha3(message: &[u8]) {
+fn answer_sha3(rt: &HostRuntime, message: &[u8]) {
     let mut output = [0u8; 32];
     hash::sha3_256(message, &mut output);
-    test_lines::run(&output);
+    test_lines::run(rt, &output);
 }
 
-fn shake_to(message: &[u8], output: &mut [u8], whole: bool) {
+fn shake_to(rt: &HostRuntime, message: &[u8], output: &mut [u8], whole: bool) {
     hash::shake256(message, output);
     if whole {
-        test_lines::run(output);
+        test_lines::run(rt, output);
     } else {
-        tell_ends(output);
+        tell_ends(rt, output);
     }
 }
 
-fn answer_shake(message: &[u8], size: usize, whole: bool) {
+fn answer_shake(rt: &HostRuntime, message: &[u8], size: usize, whole: bool) {
     let mut output = [0u8; 9216];
     let n = least(size, 9216);
-    shake_to(message, &mut output[0..n], whole);
+    shake_to(rt, message, &mut output[0..n], whole);
 }
 
-fn answer(word: u64, message: &[u8], size: usize) {
+fn answer(rt: &HostRuntime, word: u64, message: &[u8], size: usize) {
     if word == SHA3 {
-        answer_sha3(message);
+        answer_sha3(rt, message);
     } else {
-        answer_shake(message, size, word == FULL);
+        answer_shake(rt, message, size, word == FULL);
     }
-    test_lines::end_line();
+    test_lines::end_line(rt);
 }
 
 // One question: the next message, or an answer on the one that is there.
-fn step(message: &mut [u8], size: usize) -> Next {
-    let word = test_lines::read_name();
+fn step(rt: &HostRuntime, message: &mut [u8], size: usize) -> Next {
+    let word = test_lines::read_name(rt);
     if word == 0 {
         return Next::End;
     }
-    let n = read_size();
+    let n = read_size(rt);
     if word == MESS {
         let k = least(n, message.len());
-        read_message(&mut message[0..k]);
+        read_message(rt, &mut message[0..k]);
         return Next::Size(k);
     }
     let k = least(size, message.len());
-    answer(word, &message[0..k], n);
+    answer(rt, word, &message[0..k], n);
     Next::Size(k)
 }
 
-fn main() {
+fn main(rt: HostRuntime) {
     let mut message = [0u8; 4096];
     let mut size: usize = 0;
     let mut left = MOST;
     while 0 < left {
-        match step(&mut message, size) {
+        match step(&rt, &mut message, size) {
             Next::Size(n) => {
                 size = n;
             }
