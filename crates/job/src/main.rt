@@ -1,6 +1,6 @@
 // Reads one job from standard input and writes its answer to standard output; all of it is in `job_program`.
 #![tactic(auto)]
 
-fn main() {
-    job_program::run();
+fn main(rt: HostRuntime) {
+    job_program::run(&rt);
 }

@@ -11,7 +11,7 @@ use borrow.Author.Tests.{ne_eqb, leb-true, leb-false}
 use Rattle.refusals.specs.Judgement.{sign}
 use Rattle.job_calls.specs.Jobs.{keygen_job_bytes, enc_job_bytes, dec_job_bytes, longest_answer, is_job, job_answer, ten, Writes}
 use Rattle.job_calls.proofs.Sizes.{answer-size}
-use Rattle.job_program.specs.Inputs.{Holds, Answers}
+use Rattle.job_program.specs.Inputs.{Answers}
 
 no_job : (t n : ℕ) (s : List ℕ) → n < length s → is_job t n s ≡ false
 unfolding is_job

@@ -7,7 +7,6 @@ ghost use Rattle.job_calls.specs.Jobs.{longest_answer, dec_job_bytes};
 ghost use Rattle.job_program.specs.Inputs.{Answers};
 
 use job_calls::{LONGEST_ANSWER, LONGEST_JOB};
-use libc::{STDERR_FILENO, STDIN_FILENO, STDOUT_FILENO};
 use streams::Moved;
 
 // One byte more than the longest job tells a job that is too long from one that is not.
@@ -22,39 +21,37 @@ fn answer(buf: &[u8], n: usize, output: &mut [u8]) -> usize
 }
 
 // A line on standard error where the system said to try again, each time.
-fn complain(what: &[u8]) {
-    io::write_all(STDERR_FILENO, what);
-    io::write_all(STDERR_FILENO, b": not ready in ");
-    io::print_decimal(STDERR_FILENO, streams::TRIES as u64);
-    io::write_all(STDERR_FILENO, b" tries\n");
+fn complain(rt: &HostRuntime, what: &str) {
+    let tries = streams::TRIES;
+    let _ = eprintln!(rt; "{what}: not ready in {tries} tries");
 }
 
-// Says on standard error what stopped a stream: an error by the system's text for the last call that failed.
-fn report(what: &[u8], moved: Moved) {
+// Says on standard error what stopped a stream: an error by the system's text for it.
+fn report(rt: &HostRuntime, what: &str, moved: Moved) {
     match moved {
         Moved::Bytes(_) => {}
-        Moved::Failed(_) => os::fail(what),
-        Moved::Waited => complain(what),
+        Moved::Failed(error) => streams::fail(rt, what, error),
+        Moved::Waited => complain(rt, what),
     }
 }
 
 // Writes the answer to the input.
-fn reply(buf: &[u8], n: usize)
+fn reply(rt: &HostRuntime, buf: &[u8], n: usize)
     requires { (n ≤ length buf.now) × (dec_job_bytes < length buf.now) }
 {
     let mut output = [0u8; LONGEST_ANSWER];
     let m = answer(buf, n, &mut output);
-    let moved = streams::write_all(STDOUT_FILENO, &output[0..m]);
-    report(b"job: the answer could not be written whole", moved);
+    let moved = streams::write_all(rt, &mut rt.stdout(), &output[0..m]);
+    report(rt, "job: the answer could not be written whole", moved);
 }
 
 // Reads a job and writes its answer, or says on standard error why not.
-pub fn run() {
+pub fn run(rt: &HostRuntime) {
     let mut buf = [0u8; MOST];
-    let moved = streams::read_all(STDIN_FILENO, &mut buf);
+    let moved = streams::read_all(rt, &mut rt.stdin(), &mut buf);
     if let Moved::Bytes(n) = moved {
-        reply(&buf, n);
+        reply(rt, &buf, n);
     } else {
-        report(b"job: standard input could not be read", moved);
+        report(rt, "job: standard input could not be read", moved);
     }
 }
