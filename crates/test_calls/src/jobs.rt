@@ -45,20 +45,20 @@ fn job(q: Question) -> Bytes {
     }
 }
 
-fn answer_lent(q: Question, job: &[u8]) {
+fn answer_lent(rt: &HostRuntime, q: Question, job: &[u8]) {
     let n = q.third.length % 9218;
     let mut out = arguments::bytes(q.third.seed);
     let size = galmuriec::job(job, &mut out[0..n]);
-    tell::written(size, out, n, q.third.seed);
+    tell::written(rt, size, out, n, q.third.seed);
 }
 
 // False where the word is not of this call.
-pub fn answer(q: Question) -> bool {
+pub fn answer(rt: &HostRuntime, q: Question) -> bool {
     if q.call != JOBB && q.call != JOBE && q.call != JOBO {
         return false;
     }
     let n = q.first.length % 9218;
     let job = job(q);
-    answer_lent(q, &job[0..n]);
+    answer_lent(rt, q, &job[0..n]);
     true
 }

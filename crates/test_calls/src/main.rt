@@ -15,22 +15,22 @@ ghost use Rattle.std.specs.Prelude.{◌≤◌, ◌<◌};
 const MOST: u64 = 100_000_000;
 
 // Reads and answers one question; false where there is none left, or an unknown one.
-fn answer_next() -> bool {
-    let call = test_lines::read_name();
+fn answer_next(rt: &HostRuntime) -> bool {
+    let call = test_lines::read_name(rt);
     if call == 0 {
         return false;
     }
-    let q = question::read(call);
-    if !parts::answer(q) && !of_kem::answer(q) && !jobs::answer(q) {
+    let q = question::read(rt, call);
+    if !parts::answer(rt, q) && !of_kem::answer(rt, q) && !jobs::answer(rt, q) {
         return false;
     }
-    test_lines::end_line();
-    test_lines::read_end()
+    test_lines::end_line(rt);
+    test_lines::read_end(rt)
 }
 
-fn main() {
+fn main(rt: HostRuntime) {
     let mut asked: u64 = 0;
-    while asked < MOST && answer_next() {
+    while asked < MOST && answer_next(&rt) {
         asked += 1;
     }
 }

@@ -86,22 +86,32 @@ pub fn sealed(q: Question) -> Numbers {
 }
 
 // ---- answers
-fn answer_keygen(q: Question, randomness: &[u8]) {
+fn answer_keygen(rt: &HostRuntime, q: Question, randomness: &[u8]) {
     let m = q.second.length % 9218;
     let n = q.third.length % 9218;
     let mut secret = arguments::bytes(q.second.seed);
     let mut public = arguments::bytes(q.third.seed);
     let answer = keygen(randomness, &mut secret[0..m], &mut public[0..n]);
-    tell::filled_two(answer, secret, m, q.second.seed, public, n, q.third.seed);
+    tell::filled_two(
+        rt,
+        answer,
+        secret,
+        m,
+        q.second.seed,
+        public,
+        n,
+        q.third.seed,
+    );
 }
 
-fn answer_enc(q: Question, public: &[u8], randomness: &[u8]) {
+fn answer_enc(rt: &HostRuntime, q: Question, public: &[u8], randomness: &[u8]) {
     let m = q.third.length % 9218;
     let n = q.fourth.length % 9218;
     let mut shared = arguments::bytes(q.third.seed);
     let mut ciphertext = arguments::bytes(q.fourth.seed);
     let answer = enc(public, randomness, &mut shared[0..m], &mut ciphertext[0..n]);
     tell::filled_two(
+        rt,
         answer,
         shared,
         m,
@@ -112,14 +122,14 @@ fn answer_enc(q: Question, public: &[u8], randomness: &[u8]) {
     );
 }
 
-fn answer_enc_numbers(q: Question, public: &[u8], randomness: &[u8]) {
+fn answer_enc_numbers(rt: &HostRuntime, q: Question, public: &[u8], randomness: &[u8]) {
     let m = q.third.length % 9218;
     let n = q.fourth.length % 1026;
     let mut shared = arguments::bytes(q.third.seed);
     let before = arguments::output(q.fourth.seed);
     let mut ciphertext = before;
     let answer = enc_numbers(public, randomness, &mut shared[0..m], &mut ciphertext[0..n]);
-    tell::filled_both(answer, shared, m, q.third.seed, before, ciphertext, n);
+    tell::filled_both(rt, answer, shared, m, q.third.seed, before, ciphertext, n);
 }
 
 fn open(call: u64, secret: &[u8], bytes: &[u8], numbers: &[u64], shared: &mut [u8]) -> Answer {
@@ -130,49 +140,49 @@ fn open(call: u64, secret: &[u8], bytes: &[u8], numbers: &[u64], shared: &mut [u
     }
 }
 
-fn answer_open(q: Question, secret: &[u8], bytes: &[u8], numbers: &[u64]) {
+fn answer_open(rt: &HostRuntime, q: Question, secret: &[u8], bytes: &[u8], numbers: &[u64]) {
     let n = q.third.length % 9218;
     let mut shared = arguments::bytes(q.third.seed);
     let answer = open(q.call, secret, bytes, numbers, &mut shared[0..n]);
-    tell::filled_bytes(answer, shared, n, q.third.seed);
+    tell::filled_bytes(rt, answer, shared, n, q.third.seed);
 }
 
-fn answer_dec(q: Question, secret: &[u8], ciphertext: Numbers) {
+fn answer_dec(rt: &HostRuntime, q: Question, secret: &[u8], ciphertext: Numbers) {
     let m = q.second.length % 9218;
     let n = q.second.length % 1026;
     let bytes = arguments::packed(ciphertext);
-    answer_open(q, secret, &bytes[0..m], &ciphertext[0..n]);
+    answer_open(rt, q, secret, &bytes[0..m], &ciphertext[0..n]);
 }
 
-fn answer_clear(q: Question) {
+fn answer_clear(rt: &HostRuntime, q: Question) {
     let n = q.first.length % 9218;
     let mut secret = arguments::bytes(q.first.seed);
     let answer = galmuriec::kem::clear(&mut secret[0..n]);
-    tell::filled_bytes(answer, secret, n, q.first.seed);
+    tell::filled_bytes(rt, answer, secret, n, q.first.seed);
 }
 
 // With the randomness lent too.
-fn answer_sealing(q: Question, public: &[u8]) {
+fn answer_sealing(rt: &HostRuntime, q: Question, public: &[u8]) {
     let n = q.second.length % 9218;
     let randomness = arguments::bytes(q.second.seed);
     if q.call == ENCB {
-        answer_enc(q, public, &randomness[0..n]);
+        answer_enc(rt, q, public, &randomness[0..n]);
     } else {
-        answer_enc_numbers(q, public, &randomness[0..n]);
+        answer_enc_numbers(rt, q, public, &randomness[0..n]);
     }
 }
 
 // With the first argument lent.
-fn answer_lent(q: Question, first: &[u8]) {
+fn answer_lent(rt: &HostRuntime, q: Question, first: &[u8]) {
     let call = q.call;
     if call == KGEN {
-        answer_keygen(q, first);
+        answer_keygen(rt, q, first);
     } else if call == ENCB || call == ENCN {
-        answer_sealing(q, first);
+        answer_sealing(rt, q, first);
     } else if call == DECB || call == DECN {
-        answer_dec(q, first, arguments::coefficients(q, 2, q.second.seed));
+        answer_dec(rt, q, first, arguments::coefficients(q, 2, q.second.seed));
     } else {
-        answer_dec(q, first, sealed(q));
+        answer_dec(rt, q, first, sealed(q));
     }
 }
 
@@ -186,14 +196,14 @@ fn first(q: Question) -> Bytes {
     }
 }
 
-fn answer_bytes(q: Question) {
+fn answer_bytes(rt: &HostRuntime, q: Question) {
     let n = q.first.length % 9218;
     let bytes = first(q);
-    answer_lent(q, &bytes[0..n]);
+    answer_lent(rt, q, &bytes[0..n]);
 }
 
 // False where the word is of none of these calls.
-pub fn answer(q: Question) -> bool {
+pub fn answer(rt: &HostRuntime, q: Question) -> bool {
     let call = q.call;
     if call == KGEN
         || call == ENCB
@@ -203,9 +213,9 @@ pub fn answer(q: Question) -> bool {
         || call == OPNB
         || call == OPNN
     {
-        answer_bytes(q);
+        answer_bytes(rt, q);
     } else if call == CLER {
-        answer_clear(q);
+        answer_clear(rt, q);
     } else {
         return false;
     }

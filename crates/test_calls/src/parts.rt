@@ -113,74 +113,77 @@ fn hash_call(call: u64, message: &[u8], output: &mut [u8]) -> Answer {
 }
 
 // In place.
-fn answer_array(q: Question) {
+fn answer_array(rt: &HostRuntime, q: Question) {
     let n = q.first.length % 1026;
     let before = arguments::coefficients(q, 1, q.first.seed);
     let mut array = before;
     let answer = array_call(q.call, &mut array[0..n]);
-    tell::filled_numbers(answer, before, array, n);
+    tell::filled_numbers(rt, answer, before, array, n);
 }
 
 // With the operands lent.
-fn answer_lent(q: Question, lhs: &[u64], rhs: &[u64]) {
+fn answer_lent(rt: &HostRuntime, q: Question, lhs: &[u64], rhs: &[u64]) {
     let n = q.third.length % 1026;
     let before = arguments::output(q.third.seed);
     let mut out = before;
     let answer = operands_call(q.call, lhs, rhs, &mut out[0..n]);
-    tell::filled_numbers(answer, before, out, n);
+    tell::filled_numbers(rt, answer, before, out, n);
 }
 
-fn answer_operands(q: Question) {
+fn answer_operands(rt: &HostRuntime, q: Question) {
     let m = q.first.length % 1026;
     let n = q.second.length % 1026;
     let lhs = arguments::coefficients(q, 1, q.first.seed);
     let rhs = arguments::coefficients(q, 2, q.second.seed);
-    answer_lent(q, &lhs[0..m], &rhs[0..n]);
+    answer_lent(rt, q, &lhs[0..m], &rhs[0..n]);
 }
 
 // With the bytes lent: one number, numbers, or bytes are answered.
-fn answer_sampling(q: Question, randomness: &[u8]) {
+fn answer_sampling(rt: &HostRuntime, q: Question, randomness: &[u8]) {
     let n = q.second.length % 1026;
     let before = arguments::output(q.second.seed);
     let mut out = before;
     let answer = sampling_call(q.call, randomness, &mut out[0..n]);
-    tell::filled_numbers(answer, before, out, n);
+    tell::filled_numbers(rt, answer, before, out, n);
 }
 
-fn answer_hash(q: Question, message: &[u8]) {
+fn answer_hash(rt: &HostRuntime, q: Question, message: &[u8]) {
     let n = q.second.length % 9218;
     let mut out = arguments::bytes(q.second.seed);
     let answer = hash_call(q.call, message, &mut out[0..n]);
-    tell::filled_bytes(answer, out, n, q.second.seed);
+    tell::filled_bytes(rt, answer, out, n, q.second.seed);
 }
 
-fn answer_of(q: Question, bytes: &[u8]) {
+fn answer_of(rt: &HostRuntime, q: Question, bytes: &[u8]) {
     if q.call == SBFE {
-        tell::given(galmuriec::message_lanes::sample_short_bfield_element(bytes));
+        tell::given(
+            rt,
+            galmuriec::message_lanes::sample_short_bfield_element(bytes),
+        );
     } else if q.call == SHAK || q.call == SHA3 {
-        answer_hash(q, bytes);
+        answer_hash(rt, q, bytes);
     } else {
-        answer_sampling(q, bytes);
+        answer_sampling(rt, q, bytes);
     }
 }
 
-fn answer_bytes(q: Question) {
+fn answer_bytes(rt: &HostRuntime, q: Question) {
     let n = q.first.length % 9218;
     let bytes = arguments::bytes(q.first.seed);
-    answer_of(q, &bytes[0..n]);
+    answer_of(rt, q, &bytes[0..n]);
 }
 
-fn extract(q: Question, embedding: &[u64]) {
+fn extract(rt: &HostRuntime, q: Question, embedding: &[u64]) {
     let n = q.second.length % 9218;
     let mut out = arguments::bytes(q.second.seed);
     let answer = galmuriec::message_lanes::extract_msg(embedding, &mut out[0..n]);
-    tell::filled_bytes(answer, out, n, q.second.seed);
+    tell::filled_bytes(rt, answer, out, n, q.second.seed);
 }
 
-fn answer_extraction(q: Question) {
+fn answer_extraction(rt: &HostRuntime, q: Question) {
     let n = q.first.length % 1026;
     let embedding = arguments::coefficients(q, 1, q.first.seed);
-    extract(q, &embedding[0..n]);
+    extract(rt, q, &embedding[0..n]);
 }
 
 fn is_field_call(call: u64) -> bool {
@@ -203,18 +206,18 @@ fn is_bytes_call(call: u64) -> bool {
 }
 
 // False where the word is of none of these calls.
-pub fn answer(q: Question) -> bool {
+pub fn answer(rt: &HostRuntime, q: Question) -> bool {
     let call = q.call;
     if is_field_call(call) {
-        tell::given(field_call(call, q.first.seed, q.second.seed));
+        tell::given(rt, field_call(call, q.first.seed, q.second.seed));
     } else if call == NTTF || call == NTTI {
-        answer_array(q);
+        answer_array(rt, q);
     } else if is_operands_call(call) {
-        answer_operands(q);
+        answer_operands(rt, q);
     } else if call == EXTR {
-        answer_extraction(q);
+        answer_extraction(rt, q);
     } else if is_bytes_call(call) {
-        answer_bytes(q);
+        answer_bytes(rt, q);
     } else {
         return false;
     }

@@ -23,30 +23,30 @@ pub struct Question {
     pub other: Place,
 }
 
-fn read_argument() -> Argument {
+fn read_argument(rt: &HostRuntime) -> Argument {
     Argument {
-        length: test_lines::read_digits(4) as usize,
-        seed: test_lines::read_digits(16),
+        length: test_lines::read_digits(rt, 4) as usize,
+        seed: test_lines::read_digits(rt, 16),
     }
 }
 
-fn read_place() -> Place {
+fn read_place(rt: &HostRuntime) -> Place {
     Place {
-        argument: test_lines::read_digits(1),
-        index: test_lines::read_digits(4) as usize,
-        value: test_lines::read_digits(16),
+        argument: test_lines::read_digits(rt, 1),
+        index: test_lines::read_digits(rt, 4) as usize,
+        value: test_lines::read_digits(rt, 16),
     }
 }
 
 // All of a question but the line's end; its word was read.
-pub fn read(call: u64) -> Question {
+pub fn read(rt: &HostRuntime, call: u64) -> Question {
     Question {
         call: call,
-        first: read_argument(),
-        second: read_argument(),
-        third: read_argument(),
-        fourth: read_argument(),
-        one: read_place(),
-        other: read_place(),
+        first: read_argument(rt),
+        second: read_argument(rt),
+        third: read_argument(rt),
+        fourth: read_argument(rt),
+        one: read_place(rt),
+        other: read_place(rt),
     }
 }

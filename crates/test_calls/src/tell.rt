@@ -3,80 +3,80 @@ ghost use Rattle.std.specs.Prelude.{◌≤◌};
 
 use crate::arguments;
 use crate::arguments::{Bytes, Numbers};
-use libc::STDOUT_FILENO;
 use refusals::{Answer, Given, Refusal};
 
-fn refusal(r: Refusal) {
+fn refusal(rt: &HostRuntime, r: Refusal) {
     let record = r.record();
-    io::write_all(STDOUT_FILENO, b"refused ");
-    io::print_hex(STDOUT_FILENO, test_lines::wide(record.number), 2);
-    test_lines::space();
-    io::print_hex(STDOUT_FILENO, test_lines::wide(record.argument), 2);
-    test_lines::space();
-    io::print_hex(STDOUT_FILENO, record.place, 16);
+    test_lines::put(rt, "refused ");
+    test_lines::put_byte(rt, record.number);
+    test_lines::space(rt);
+    test_lines::put_byte(rt, record.argument);
+    test_lines::space(rt);
+    test_lines::put_number(rt, record.place);
 }
 
-pub fn given(g: Given) {
+pub fn given(rt: &HostRuntime, g: Given) {
     match g {
-        Given::NotGiven(r) => refusal(r),
+        Given::NotGiven(r) => refusal(rt, r),
         Given::Value(x) => {
-            io::write_all(STDOUT_FILENO, b"given ");
-            io::print_hex(STDOUT_FILENO, x, 16);
+            test_lines::put(rt, "given ");
+            test_lines::put_number(rt, x);
         }
     }
 }
 
-fn kept(is: bool) {
+fn kept(rt: &HostRuntime, is: bool) {
     if is {
-        io::write_all(STDOUT_FILENO, b" kept");
+        test_lines::put(rt, " kept");
     } else {
-        io::write_all(STDOUT_FILENO, b" changed");
+        test_lines::put(rt, " changed");
     }
 }
 
 // Tells a refusal, and whether the outputs were kept. True where there is none: the outputs are to follow.
-fn done(answer: Answer, outputs_kept: bool) -> bool {
+fn done(rt: &HostRuntime, answer: Answer, outputs_kept: bool) -> bool {
     let Answer::Refused(r) = answer else {
-        io::write_all(STDOUT_FILENO, b"done");
+        test_lines::put(rt, "done");
         return true;
     };
-    refusal(r);
-    kept(outputs_kept);
+    refusal(rt, r);
+    kept(rt, outputs_kept);
     false
 }
 
-fn numbers(s: &[u64]) {
+fn numbers(rt: &HostRuntime, s: &[u64]) {
     for i in 0..s.len() {
-        test_lines::space();
-        io::print_hex(STDOUT_FILENO, s[i], 16);
+        test_lines::space(rt);
+        test_lines::put_number(rt, s[i]);
     }
 }
 
-fn bytes(s: &[u8]) {
-    test_lines::space();
-    test_lines::run(s);
+fn bytes(rt: &HostRuntime, s: &[u8]) {
+    test_lines::space(rt);
+    test_lines::run(rt, s);
 }
 
 // A call that fills one output of numbers, and what was in it before.
-pub fn filled_numbers(answer: Answer, before: Numbers, output: Numbers, n: usize)
+pub fn filled_numbers(rt: &HostRuntime, answer: Answer, before: Numbers, output: Numbers, n: usize)
     requires { n ≤ 1025 }
 {
-    if done(answer, arguments::same_numbers(&before, &output)) {
-        numbers(&output[0..n]);
+    if done(rt, answer, arguments::same_numbers(&before, &output)) {
+        numbers(rt, &output[0..n]);
     }
 }
 
 // A call that fills one output of bytes, which held draws from the seed.
-pub fn filled_bytes(answer: Answer, output: Bytes, n: usize, seed: u64)
+pub fn filled_bytes(rt: &HostRuntime, answer: Answer, output: Bytes, n: usize, seed: u64)
     requires { n ≤ 9217 }
 {
-    if done(answer, arguments::kept_bytes(&output, seed, 0)) {
-        bytes(&output[0..n]);
+    if done(rt, answer, arguments::kept_bytes(&output, seed, 0)) {
+        bytes(rt, &output[0..n]);
     }
 }
 
 // A call that fills two outputs of bytes.
 pub fn filled_two(
+    rt: &HostRuntime,
     answer: Answer,
     first: Bytes,
     m: usize,
@@ -89,16 +89,18 @@ pub fn filled_two(
 {
     let first_kept = arguments::kept_bytes(&first, first_seed, 0);
     if done(
+        rt,
         answer,
         first_kept && arguments::kept_bytes(&second, second_seed, 0),
     ) {
-        bytes(&first[0..m]);
-        bytes(&second[0..n]);
+        bytes(rt, &first[0..m]);
+        bytes(rt, &second[0..n]);
     }
 }
 
 // A call that fills an output of bytes and one of numbers.
 pub fn filled_both(
+    rt: &HostRuntime,
     answer: Answer,
     first: Bytes,
     m: usize,
@@ -111,21 +113,22 @@ pub fn filled_both(
 {
     let first_kept = arguments::kept_bytes(&first, seed, 0);
     if done(
+        rt,
         answer,
         first_kept && arguments::same_numbers(&before, &second),
     ) {
-        bytes(&first[0..m]);
-        numbers(&second[0..n]);
+        bytes(rt, &first[0..m]);
+        numbers(rt, &second[0..n]);
     }
 }
 
-fn written_where(how: bool, size: usize) {
+fn written_where(rt: &HostRuntime, how: bool, size: usize) {
     if how {
-        io::write_all(STDOUT_FILENO, b"wrote ");
+        test_lines::put(rt, "wrote ");
     } else {
-        io::write_all(STDOUT_FILENO, b"needs ");
+        test_lines::put(rt, "needs ");
     }
-    io::print_hex(STDOUT_FILENO, size as u64, 16);
+    test_lines::put_number(rt, size as u64);
 }
 
 fn front(size: usize, n: usize) -> usize
@@ -135,13 +138,13 @@ fn front(size: usize, n: usize) -> usize
 }
 
 // A job's answer at the front of the output, where it fits.
-pub fn written(size: usize, output: Bytes, n: usize, seed: u64)
+pub fn written(rt: &HostRuntime, size: usize, output: Bytes, n: usize, seed: u64)
     requires { n ≤ 9217 }
 {
     let told = front(size, n);
-    written_where(size <= n, size);
+    written_where(rt, size <= n, size);
     if size <= n {
-        bytes(&output[0..told]);
+        bytes(rt, &output[0..told]);
     }
-    kept(arguments::kept_bytes(&output, seed, told));
+    kept(rt, arguments::kept_bytes(&output, seed, told));
 }
