@@ -40,12 +40,12 @@ fn is_again<C: Clock>(clock: &C, error: Error) -> bool {
 }
 
 // One read, made again where the system says so: at least one byte, or 0 at the end of the input.
-fn read_some<C: Clock, R: Read>(clock: &C, from: &mut R, buf: &mut [u8]) -> Moved
+fn read_some<C: Clock, R: Read>(clock: &C, input: &mut R, buf: &mut [u8]) -> Moved
     ensures { Within (length buf.old) result }
 {
     let mut tries = TRIES;
     while tries > 0 {
-        let error = match from.read(buf) {
+        let error = match input.read(buf) {
             Ok(n) => return Moved::Bytes(n),
             Err(e) => e,
         };
@@ -57,21 +57,21 @@ fn read_some<C: Clock, R: Read>(clock: &C, from: &mut R, buf: &mut [u8]) -> Move
     Moved::Waited
 }
 
-// The same into buf from byte `start` on.
-fn read_on<C: Clock, R: Read>(clock: &C, from: &mut R, buf: &mut [u8], start: usize) -> Moved
-    requires { start ≤ length buf.old }
-    ensures { Within (length buf.old - start) result }
+// The same into buf from byte `from` on.
+fn read_on<C: Clock, R: Read>(clock: &C, input: &mut R, buf: &mut [u8], from: usize) -> Moved
+    requires { from ≤ length buf.old }
+    ensures { Within (length buf.old - from) result }
 {
-    read_some(clock, from, &mut buf[start..])
+    read_some(clock, input, &mut buf[from..])
 }
 
 // Reads until the input ends or buf is full, and says how many bytes now stand at the front of buf.
-pub fn read_all<C: Clock, R: Read>(clock: &C, from: &mut R, buf: &mut [u8]) -> Moved
+pub fn read_all<C: Clock, R: Read>(clock: &C, input: &mut R, buf: &mut [u8]) -> Moved
     ensures { (length buf.new ≡ length buf.old) × Within (length buf.old) result }
 {
     let mut done = 0;
     while done < buf.len() {
-        match read_on(clock, from, buf, done) {
+        match read_on(clock, input, buf, done) {
             Moved::Bytes(n) => {
                 if n == 0 {
                     return Moved::Bytes(done);
@@ -86,12 +86,12 @@ pub fn read_all<C: Clock, R: Read>(clock: &C, from: &mut R, buf: &mut [u8]) -> M
 }
 
 // One write, made again where the system says so or takes nothing.
-fn write_some<C: Clock, W: Write>(clock: &C, to: &mut W, buf: &[u8]) -> Moved
+fn write_some<C: Clock, W: Write>(clock: &C, output: &mut W, buf: &[u8]) -> Moved
     ensures { Within (length buf.now) result }
 {
     let mut tries = TRIES;
     while tries > 0 {
-        let error = match to.write(buf) {
+        let error = match output.write(buf) {
             Ok(0) => Error::from(ErrorKind::WouldBlock),
             Ok(n) => return Moved::Bytes(n),
             Err(e) => e,
@@ -104,21 +104,21 @@ fn write_some<C: Clock, W: Write>(clock: &C, to: &mut W, buf: &[u8]) -> Moved
     Moved::Waited
 }
 
-// The same of buf's bytes from `start` on.
-fn write_on<C: Clock, W: Write>(clock: &C, to: &mut W, buf: &[u8], start: usize) -> Moved
-    requires { start ≤ length buf.now }
-    ensures { Within (length buf.now - start) result }
+// The same of buf's bytes from `from` on.
+fn write_on<C: Clock, W: Write>(clock: &C, output: &mut W, buf: &[u8], from: usize) -> Moved
+    requires { from ≤ length buf.now }
+    ensures { Within (length buf.now - from) result }
 {
-    write_some(clock, to, &buf[start..])
+    write_some(clock, output, &buf[from..])
 }
 
 // Writes all of buf, or says why not; a part of it may then have been written.
-pub fn write_all<C: Clock, W: Write>(clock: &C, to: &mut W, buf: &[u8]) -> Moved
+pub fn write_all<C: Clock, W: Write>(clock: &C, output: &mut W, buf: &[u8]) -> Moved
     ensures { Whole (length buf.now) result }
 {
     let mut done = 0;
     while done < buf.len() {
-        match write_on(clock, to, buf, done) {
+        match write_on(clock, output, buf, done) {
             Moved::Bytes(n) => {
                 // never: `write_some` waits for a byte; it is said here that the loop ends
                 if n == 0 {
