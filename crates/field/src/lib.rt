@@ -261,7 +261,8 @@ impl BFieldElement {
         while 0 < digits {
             digits -= 1;
             acc = acc.mul(acc);
-            if (exp >> digits) % 2 == 1 {
+            let is_one = (exp >> digits) % 2 == 1;
+            if is_one {
                 acc = acc.mul(self);
             }
         }
@@ -313,7 +314,8 @@ impl BFieldElement {
         ensures { result ≡ inverted (num self) }
     {
         let word = self.0;
-        if word == 0 {
+        let is_zero = word == 0;
+        if is_zero {
             Inverted::OfZero
         } else {
             Inverted::Inverse(self.to_p_minus_2())

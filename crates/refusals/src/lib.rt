@@ -89,7 +89,8 @@ fn first_bad(s: &[u64]) -> usize
 {
     let mut i = 0;
     while i < s.len() {
-        if s[i] >= BFieldElement::P {
+        let is_bad = s[i] >= BFieldElement::P;
+        if is_bad {
             return i;
         }
         i += 1;

@@ -30,16 +30,16 @@ loop-digits-init c =
       },
     )
 
-pub loop-digits-preserved-then-exp-digits-eq1 : goal.loop-digits-preserved-then-exp-digits-eq1
-loop-digits-preserved-then-exp-digits-eq1 c =
+pub loop-digits-preserved-then-is_one : goal.loop-digits-preserved-then-is_one
+loop-digits-preserved-then-is_one c =
     let args = c.args in (
       omega arith,
       record {
-        good = c.mul-acc-then-exp-digits-eq1.ensures.good;
+        good = c.mul-acc-then-is_one.ensures.good;
         number =
-            c.mul-acc-then-exp-digits-eq1.ensures.number
+            c.mul-acc-then-is_one.ensures.number
             ∙ digit_1 P (num args.self) args.exp (c.loop-digits.digits - 1) (num c.loop-digits.acc) (num c.mul-acc.result)
-            (before_square (goal.at.loop-digits-preserved-then-exp-digits-eq1 c).After-mul-acc) c.mul-acc.ensures.number (num-lt args.self) c.if-exp-digits-eq1.true;
+            (before_square (goal.at.loop-digits-preserved-then-is_one c).After-mul-acc) c.mul-acc.ensures.number (num-lt args.self) c.if-is_one.true;
       },
     )
 
@@ -51,6 +51,6 @@ loop-digits-preserved c =
         good = c.mul-acc.ensures.good;
         number =
             digit_0 P (num args.self) args.exp (c.loop-digits.digits - 1) (num c.loop-digits.acc) (num c.mul-acc.result)
-            (before_square (goal.at.loop-digits-preserved c).After-mul-acc) c.mul-acc.ensures.number (even _ c.if-exp-digits-eq1.false);
+            (before_square (goal.at.loop-digits-preserved c).After-mul-acc) c.mul-acc.ensures.number (even _ c.if-is_one.false);
       },
     )
