@@ -16,7 +16,7 @@ pub loop-i-preserved : goal.loop-i-preserved
 loop-i-preserved c =
     let l = c.loop-i in
     let args = c.args in
-    let bytes = c.shared_slice_known-1.given in
+    let bytes = c.type_inv.part in
     let whole : (args.at + l.i) % 8 ≡ 0 = omega arith in
     let room : l.i + 8 ≤ length args.part.now = omega arith in
     (room, omega arith, xor_lane_more _ _ _ _ _ _ whole room (λ k. (bytes k).fits) c.load-lane.ensures l.invariant.2)

@@ -7,5 +7,5 @@ use Rattle.hash.proofs.shake256_start.Goals as goal
 pub returns : goal.returns
 unfolding hashed
 returns c = record {
-  bytes = λ n. ap (drawn 136 n) c.fed.ensures ∙ hashed-shake256 _ n (λ i. (c.shared_slice_known-1.given i).fits);
+  bytes = λ n. ap (drawn 136 n) c.fed.ensures ∙ hashed-shake256 _ n (λ i. (c.type_inv.message i).fits);
 }
