@@ -11,7 +11,7 @@ unfoldable pub big_endian : List ℕ → ℕ → ℕ → ℕ
 big_endian l s zero = 0
 big_endian l s (suc n) = big_endian l s n * 256 + get_or l (s + n) 0
 
--- Uniform: nine bytes, big_endian, modulo p. Nothing is rejected.
+-- Uniform: nine bytes, big-endian, modulo p. Nothing is rejected.
 unfoldable pub uniform : List ℕ → ℕ → ℕ
 uniform l s = big_endian l s 9 % P
 

@@ -15,7 +15,7 @@ fn wide(x: u8) -> u64
     x as u64
 }
 
-// Four bytes from s on, big_endian.
+// Four bytes from s on, big-endian.
 fn four_bytes(l: &[u8], s: usize) -> u64
     requires { s + 4 ≤ length l.now }
     ensures { (result ≡ big_endian l.now s 4) × (result < 2 ^ 32) }
@@ -27,7 +27,7 @@ fn four_bytes(l: &[u8], s: usize) -> u64
     b0 * 0x100_0000 + b1 * 0x1_0000 + b2 * 0x100 + b3
 }
 
-// Nine bytes from s on, big_endian, modulo p. The first stands at 2^64, which is 2^32 - 1 modulo p.
+// Nine bytes from s on, big-endian, modulo p. The first stands at 2^64, which is 2^32 - 1 modulo p.
 fn uniform_at(l: &[u8], s: usize) -> u64
     requires { s + 9 ≤ length l.now }
     ensures { result ≡ uniform l.now s }
