@@ -41,7 +41,8 @@ byte_at w i k h =
 word_of_bytes : (w : List ℕ) (i : ℕ) → i < length w → get_or w i 0 < 2 ^ 64 → word (bytes w) (8 * i) ≡ get_or w i 0
 unfolding word
 word_of_bytes w i h b =
-    number_ext 256 8 (λ k. get_or (bytes w) (8 * i + k) 0) (digit 256 (get_or w i 0)) (λ k g. get_or-bytes w (8 * i + k) (omega arith) ∙ byte_at w i k g)
+    number_ext 256 8 (λ k. get_or (bytes w) (8 * i + k) 0) (digit 256 (get_or w i 0))
+    (λ k g. get_or-bytes w (8 * i + k) (omega arith) ∙ byte_at w i k g)
     ∙ number_digits 256 8 (get_or w i 0) (lit< tt) ∙ mod-eq_of_lt b
 
 byte_of_word : (s : List ℕ) → ((i : ℕ) → get_or s i 0 < 256) → (o k : ℕ) → k < 8 → digit 256 (word s o) k ≡ get_or s (o + k) 0

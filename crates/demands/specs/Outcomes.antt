@@ -24,7 +24,7 @@ pub record Outcome (n : ℕ) (ps : List (ParamKind n)) (r : ResultKind n) (Promi
 pub record Total (n : ℕ) (ps : List (ParamKind n)) (r : ResultKind n) (name : Callee) (code : Code) (Demand : In n ps) (Promise : Out n ps r)
     (statement : Type 1 → Type 2) : Type 2 where
   pub ends : {M : Type 1} → statement M
-  -- what a caller may count on, wherever the code stands (δ) and under whatever name it is called: the promise itself, of some answer and last contents
+  -- what a caller may count on, wherever the code stands (δ) and whatever calls it: the promise itself, of some answer and last contents
   pub with_outcome : (w : World) (δ γ : Env) (k : Callee) → Wired δ code → γ k ≡ δ name
       → Known w.𝓛 (Over w.𝓛 w.𝓜 w.𝓡 γ) n ps r Demand Promise k
   pub demands_nothing : (κs : Lfts n) (lent : Dens κs ps) → Demand κs lent

@@ -1,6 +1,7 @@
 -- Fermat's theorem for p: x ^ (p - 1) is 1 modulo p for every x from 1 to p - 1, since 7 generates them all. So x ^ (p - 2) is the inverse
 -- of x, and there is no other.
-use Rattle.std.proofs.Common.{◌≡◌, ℕ, ◌-◌, ◌*◌, ◌%◌, ◌^◌, ◌<◌, T, List, [], ◌∷◌, sym, refl, ap, ◌∙◌, mod-eq_of_lt, mul_assoc, mul_comm, one-mul, pow-suc}
+use Rattle.std.proofs.Common.{◌≡◌, ℕ, ◌-◌, ◌*◌, ◌%◌, ◌^◌, ◌<◌, T, List, []}
+use Rattle.std.proofs.Common.{◌∷◌, sym, refl, ap, ◌∙◌, mod-eq_of_lt, mul_assoc, mul_comm, one-mul, pow-suc}
 use Rattle.laws.proofs.Congruence.{mul_mod_l}
 use Rattle.laws.proofs.Generators.{fermat_by, generates, factors_pass, factor_passes, undivided}
 use Rattle.laws.proofs.Powers.{powmod, factor}

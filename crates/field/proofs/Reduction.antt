@@ -1,6 +1,7 @@
 -- Montgomery's reduction on plain numbers: xl is the low half, a its sum with its own shift, e that sum's carry, b what is taken from the
 -- high half xh.
-use Rattle.std.proofs.Common.{◌≡◌, ℕ, zero, suc, ◌+◌, ◌-◌, ◌*◌, ◌/◌, ◌%◌, ◌^◌, ◌<◌, ◌≤◌, [], ◌∷◌, sym, refl, ap, ◌∙◌, subst, lt_of_le_of_lt, mod-lt, mod-eq_of_lt, div-add-mod', arith, lit<}
+use Rattle.std.proofs.Common.{◌≡◌, ℕ, zero, suc, ◌+◌, ◌-◌, ◌*◌, ◌/◌, ◌%◌, ◌^◌, ◌<◌, ◌≤◌}
+use Rattle.std.proofs.Common.{[], ◌∷◌, sym, refl, ap, ◌∙◌, subst, lt_of_le_of_lt, mod-lt, mod-eq_of_lt, div-add-mod', arith, lit<}
 use native.Mathlib.Nat.{add-mul-mod_self_right, add_right_comm}
 use lib.Pow.{mod-mod-pow}
 use Rattle.laws.proofs.ModularSolver.{mod_ring, at, lit, neg, ◌⊞◌, ◌⊠◌}

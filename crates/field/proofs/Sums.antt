@@ -1,5 +1,6 @@
 -- Sums of products in three words, on plain numbers: one product more, and the reduction.
-use Rattle.std.proofs.Common.{◌≡◌, ℕ, ◌+◌, ◌-◌, ◌*◌, ◌/◌, ◌%◌, ◌^◌, ◌<◌, ◌≤◌, [], ◌∷◌, sym, refl, ap, ◌∙◌, mod-eq_of_lt, mul-le-mul, lt_of_mul-lt-mul_right, div-add-mod', arith, lit<}
+use Rattle.std.proofs.Common.{◌≡◌, ℕ, ◌+◌, ◌-◌, ◌*◌, ◌/◌, ◌%◌, ◌^◌, ◌<◌, ◌≤◌, []}
+use Rattle.std.proofs.Common.{◌∷◌, sym, refl, ap, ◌∙◌, mod-eq_of_lt, mul-le-mul, lt_of_mul-lt-mul_right, div-add-mod', arith, lit<}
 use native.Mathlib.Nat.{mod-add-mod, add-mod_right}
 use Rattle.laws.proofs.ModularSolver.{mod_ring, at, lit, rem, neg, ◌⊞◌, ◌⊠◌}
 use Rattle.field.specs.Field.{P, wide}

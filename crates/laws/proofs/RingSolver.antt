@@ -185,7 +185,8 @@ module _ (R : CRing) where
   mmul_ev : (ρ : List A) (xs ys : List ℕ) → mon ρ (mmul xs ys) ≡ mon ρ xs ⊗ mon ρ ys
   unfolding mon
   mmul_ev ρ [] ys = sym (one-mul R (mon ρ ys))
-  mmul_ev ρ (x ∷ xs) ys = ins_ev ρ x (mmul xs ys) ∙ ap (λ y. get_or ρ x 𝟘 ⊗ y) (mmul_ev ρ xs ys) ∙ sym (R.mul_assoc (get_or ρ x 𝟘) (mon ρ xs) (mon ρ ys))
+  mmul_ev ρ (x ∷ xs) ys =
+      ins_ev ρ x (mmul xs ys) ∙ ap (λ y. get_or ρ x 𝟘 ⊗ y) (mmul_ev ρ xs ys) ∙ sym (R.mul_assoc (get_or ρ x 𝟘) (mon ρ xs) (mon ρ ys))
 
   mk_ev : (ρ : List A) (p m : ℕ) (mo : List ℕ) (P : Normal) → pev ρ (mk p m mo P) ≡ co p m ⊗ mon ρ mo ⊕ pev ρ P
   unfolding pev co

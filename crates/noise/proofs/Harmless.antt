@@ -92,7 +92,8 @@ noise_theorem m w bytes coefficients small = sym (is_tab 32 (λ i. extracted (pl
 
     at : (i : ℕ) → i < 32 → extracted (plus 64 (embed m) w) i ≡ get_or m i 0
     at i h =
-        (λ j. half (2 * i) (get_or m i 0) 0 (omega arith) (embed_even m i h) j + 16 * half (2 * i + 1) (get_or m i 0) 4 (omega arith) (embed_odd m i h) j)
+        (λ j. half (2 * i) (get_or m i 0) 0 (omega arith) (embed_even m i h) j
+        + 16 * half (2 * i + 1) (get_or m i 0) 4 (omega arith) (embed_odd m i h) j)
         ∙ bits (get_or m i 0) (bytes.each i)
 
 -- ---- no noise

@@ -116,7 +116,8 @@ module _ (f g : ℕ → ℕ → ℕ → ℕ) (table : ℕ → ℕ) (m t : ℕ) (
       ])
       ∙ simp (lt-ltb r t h)
 
-  pub rule_high : (i r : ℕ) → r < t → rule (i * (t + t) + r + t) ≡ g (table (m + i)) (get_or old (i * (t + t) + r) 0) (get_or old (i * (t + t) + r + t) 0)
+  pub rule_high : (i r : ℕ) → r < t
+      → rule (i * (t + t) + r + t) ≡ g (table (m + i)) (get_or old (i * (t + t) + r) 0) (get_or old (i * (t + t) + r + t) 0)
   rule_high i r h =
       let l : r + t < t + t = omega arith in
       let e : i * (t + t) + r + t ≡ i * (t + t) + (r + t) = omega arith in

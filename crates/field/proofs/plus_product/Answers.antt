@@ -31,7 +31,8 @@ returns c =
     let h = x.result.hi + c.if-lo-x.c in
     let fits : h < 2 ^ 64 = omega (arith, room (goal.at.returns c).After-product-x, carry_small (low_carry (goal.at.returns c).Joined-lo-x)) in (
       one_more (2 ^ 64) s.top s.hi s.lo x.result.hi x.result.lo _ _ _ _
-          (carried (2 ^ 64) x.result.lo s.lo _ _ (search rules) (search rules) c.wrapping_add_u64-lo.ensures.value (low_carry (goal.at.returns c).Joined-lo-x))
+          (carried (2 ^ 64) x.result.lo s.lo _ _ (search rules) (search rules) c.wrapping_add_u64-lo.ensures.value
+          (low_carry (goal.at.returns c).Joined-lo-x))
           (carried (2 ^ 64) h s.hi _ _ fits (search rules) c.wrapping_add_u64-hi.ensures.value (high_carry (goal.at.returns c).Joined-hi-h))
           ∙ ap (λ (n : ℕ). amount s + n) x.ensures,
       omega (arith, carry_small (high_carry (goal.at.returns c).Joined-hi-h)),

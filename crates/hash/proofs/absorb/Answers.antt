@@ -34,7 +34,8 @@ loop-i-init c = search rules
 pub loop-i-preserved-then-at-rate : goal.loop-i-preserved-then-at-rate
 loop-i-preserved-then-at-rate c = (
   omega arith,
-  ap (λ (l : List ℕ). run l 0) c.permute.ensures ∙ sym (turn_yes _ _ _ c.if-at-rate.true) ∙ fed (goal.at.loop-i-preserved-then-at-rate c).After-add_part,
+  ap (λ (l : List ℕ). run l 0) c.permute.ensures ∙ sym (turn_yes _ _ _ c.if-at-rate.true)
+      ∙ fed (goal.at.loop-i-preserved-then-at-rate c).After-add_part,
   omega arith,
 )
 

@@ -8,7 +8,8 @@ use Rattle.keccak.proofs.rounds.Given as goal
 
 abbrev pub invariant-loop-i : goal.invariant-loop-i
 invariant-loop-i l =
-    (l.i ≤ 24) × (l.i % 4 ≡ 0) × (l.s ≡ complemented (L.rounds l.i (complemented l.initial.s))) × (l.constants ≡ L.constants) × Below (2 ^ 64) 25 l.initial.s
+    (l.i ≤ 24) × (l.i % 4 ≡ 0) × (l.s ≡ complemented (L.rounds l.i (complemented l.initial.s)))
+    × (l.constants ≡ L.constants) × Below (2 ^ 64) 25 l.initial.s
 
 abbrev pub decreases-loop-i : goal.decreases-loop-i
 decreases-loop-i l = 24 - l.i
