@@ -1,4 +1,4 @@
-/* A first packet. From the top of the repository, after `rt staticlib galmuriec_c`:
+/* A first packet. From the top of the repository, after `tests/build galmuriec_c`:
  *     cc -Iinclude examples/seal.c target/staticlib/libgalmuriec_c.a -o seal && ./seal */
 #include "galmuriec.h"
 #include <stdio.h>

@@ -1,5 +1,5 @@
 /*
- * Galmuriec for C, C++ and every language that can call C: the archive that `rt staticlib galmuriec_c` writes.
+ * Galmuriec for C, C++ and every language that can call C: the archive that `tests/build galmuriec_c` makes.
  * examples/seal.c is a whole program over it.
  *
  * Each call behind this header is proved to meet its contract in crates/galmuriec_c/src/lib.rt: for all input, what it

@@ -1,4 +1,4 @@
-// Links the proved archive, which `rt staticlib galmuriec_c` writes.
+// Links the proved archive, which `tests/build galmuriec_c` makes.
 fn main() {
     println!("cargo:rustc-link-search=native=../../target/staticlib");
     println!("cargo:rustc-link-lib=static=galmuriec_c");
