@@ -1,7 +1,8 @@
 -- Elements and the numbers they stand for: what each operation on Montgomery words does to the number, and that a number determines its
 -- word.
 use Rattle.std.proofs.Common.{◌≡◌, ℕ, ◌+◌, ◌-◌, ◌*◌, ◌%◌, ◌^◌, ◌<◌, [], ◌∷◌, sym}
-use Rattle.std.proofs.Common.{refl, ap, ◌∙◌, lt_of_le_of_lt, le_of_lt, mod-lt, mod-eq_of_lt, lt_of_mul-lt-mul_right, mul-le-mul_left, mul-lt-mul_of_pos_right, lit<}
+use Rattle.std.proofs.Common.{refl, ap, ◌∙◌, lt_of_le_of_lt, le_of_lt, mod-lt, mod-eq_of_lt}
+use Rattle.std.proofs.Common.{lt_of_mul-lt-mul_right, mul-le-mul_left, mul-lt-mul_of_pos_right, lit<}
 use native.Mathlib.Nat.{le_intro}
 use Rattle.laws.proofs.ModularSolver.{mod_ring, at, lit, rem, neg, ◌⊞◌, ◌⊠◌}
 use Rattle.field.specs.declared.BFieldElement.{BFieldElement}
