@@ -155,5 +155,11 @@ pub extern "C" fn bench_dec(
     ensures { (result ≡ opens (dec ones secret.now ciphertext.now))
         × (shared.new ≡ key_or (dec ones secret.now ciphertext.now) shared.old) }
 {
-    seal::dec(secret, ciphertext, shared)
+    match seal::dec(secret, ciphertext) {
+        Some(key) => {
+            shared.copy_from_slice(&key);
+            true
+        }
+        None => false,
+    }
 }

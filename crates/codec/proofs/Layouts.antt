@@ -1,12 +1,13 @@
 -- Reading and writing undo each other, and what a loop has done that writes numbers.
-use mathlib.Core.Path.{◌≡◌, sym, ap, ◌∙◌, subst}
-use mathlib.Core.List.{List}
+use mathlib.Core.Path.{◌≡◌, sym, ap, ap₂, ◌∙◌, subst}
+use mathlib.Core.List.{List, ◌++◌, append_assoc}
 use Prim.Native.Nat.{ℕ, suc, ◌+◌, ◌*◌, ◌/◌, ◌%◌, ◌^◌, ◌≤◌, ◌<◌}
-use native.Mathlib.Nat.{zero-add, add-zero, mod-lt, mod-eq_of_lt}
+use native.Mathlib.Nat.{zero-add, add-zero, mod-lt, mod-eq_of_lt, div-one}
 use native.Mathlib.Omega.{arith}
 use lib.Dec.{lit<}
-use lib.ListN.{length, get_or, set, drop}
-use lib.Seq.{ext_get_or, get_or-drop}
+use lib.ListN.{length, get_or, set, take, drop}
+use lib.Seq.{ext_get_or, get_or-drop, drop-drop, sets-eq}
+use Rattle.std.specs.Int.{to_le_bytes, w64}
 use Rattle.laws.specs.Lists.{Below}
 use Rattle.laws.specs.Digits.{digit}
 use Rattle.laws.proofs.Lists.{length-tab, get_or-tab}
@@ -55,6 +56,25 @@ unfolding word
 word-drop l o =
     number_ext 256 8 (λ k. get_or (drop o l) (0 + k) 0) (λ k. get_or l (o + k) 0)
     (λ k h. ap (λ (n : ℕ). get_or (drop o l) n 0) (zero-add k) ∙ get_or-drop o l k 0)
+
+-- eight bytes that were written as a part of the list
+pub with_bytes : (l ys : List ℕ) (o k x : ℕ) → o + 8 ≤ length l → k ≡ 8 → ys ≡ to_le_bytes w64 x
+    → take o l ++ (ys ++ drop k (drop o l)) ≡ with_word l o x
+unfolding digit
+with_bytes l ys o k x h u e =
+    let low : x % 256 ≡ x / 1 % 256 = ap (λ (n : ℕ). n % 256) (sym (div-one x)) in
+    let o₁ : suc o ≡ o + 1 = omega arith in
+    let o₂ : suc (suc o) ≡ o + 2 = omega arith in
+    let o₃ : suc (suc (suc o)) ≡ o + 3 = omega arith in
+    let o₄ : suc (suc (suc (suc o))) ≡ o + 4 = omega arith in
+    let o₅ : suc (suc (suc (suc (suc o)))) ≡ o + 5 = omega arith in
+    let o₆ : suc (suc (suc (suc (suc (suc o))))) ≡ o + 6 = omega arith in
+    let o₇ : suc (suc (suc (suc (suc (suc (suc o)))))) ≡ o + 7 = omega arith in
+    ap₂ (λ (n : ℕ) (z : List ℕ). take o l ++ (z ++ drop n (drop o l))) u e
+    ∙ ap (λ (z : List ℕ). take o l ++ (to_le_bytes w64 x ++ z)) (drop-drop 8 o l)
+    ∙ sym (append_assoc (take o l) (to_le_bytes w64 x) (drop (o + 8) l)) ∙ sym (sets-eq (to_le_bytes w64 x) l o h)
+    ∙ (λ t. set (set (set (set (set (set (set (set l o (low t)) (o₁ t) (x / 256 ^ 1 % 256)) (o₂ t) (x / 256 ^ 2 % 256)) (o₃ t) (x / 256 ^ 3 % 256))
+    (o₄ t) (x / 256 ^ 4 % 256)) (o₅ t) (x / 256 ^ 5 % 256)) (o₆ t) (x / 256 ^ 6 % 256)) (o₇ t) (x / 256 ^ 7 % 256))
 
 -- numbers to bytes and back
 pub words-bytes : (w : List ℕ) (n : ℕ) → Below (2 ^ 64) n w → words (bytes w) ≡ w

@@ -1,7 +1,7 @@
-// Numbers of 64 bits as eight bytes, lowest first, and bytes copied; the sizes of keys and packets.
+// Numbers of 64 bits as eight bytes, lowest first; the sizes of keys and packets.
 #![tactic(auto)]
 
-ghost use Rattle.std.specs.Prelude.{◌≡◌, ◌+◌, ◌*◌, ◌<◌, ◌≤◌, length};
+ghost use Rattle.std.specs.Prelude.{◌≡◌, ◌+◌, ◌*◌, ◌≤◌, length};
 ghost use Rattle.codec.specs.Layout.{word, words, bytes, with_word};
 ghost use Rattle.codec.specs.Sizes as sizes;
 
@@ -29,26 +29,21 @@ fn sizes()
 {}
 
 // ---- bytes and numbers
-// A byte as a number: asks for no proof that it fits.
-pub fn wide(x: u8) -> u64
-    ensures { (result ≡ x) × (result < 256) }
-{
-    x as u64
-}
-
-// The number in the eight bytes from `at` on. The sum becomes one load.
+// The number in the eight bytes from `at` on. They become one load.
 pub fn load(s: &[u8], at: usize) -> u64
     requires { at + 8 ≤ length s.now }
     ensures { result ≡ word s.now at }
 {
-    wide(s[at])
-        + wide(s[at + 1]) * 0x100
-        + wide(s[at + 2]) * 0x1_0000
-        + wide(s[at + 3]) * 0x100_0000
-        + wide(s[at + 4]) * 0x1_0000_0000
-        + wide(s[at + 5]) * 0x100_0000_0000
-        + wide(s[at + 6]) * 0x1_0000_0000_0000
-        + wide(s[at + 7]) * 0x100_0000_0000_0000
+    u64::from_le_bytes([
+        s[at],
+        s[at + 1],
+        s[at + 2],
+        s[at + 3],
+        s[at + 4],
+        s[at + 5],
+        s[at + 6],
+        s[at + 7],
+    ])
 }
 
 // Puts the eight bytes of x from `at` on. They become one store.
@@ -56,14 +51,7 @@ pub fn store(out: &mut [u8], at: usize, x: u64)
     requires { at + 8 ≤ length out.old }
     ensures { out.new ≡ with_word out.old at x }
 {
-    out[at] = (x % 0x100) as u8;
-    out[at + 1] = (x / 0x100 % 0x100) as u8;
-    out[at + 2] = (x / 0x1_0000 % 0x100) as u8;
-    out[at + 3] = (x / 0x100_0000 % 0x100) as u8;
-    out[at + 4] = (x / 0x1_0000_0000 % 0x100) as u8;
-    out[at + 5] = (x / 0x100_0000_0000 % 0x100) as u8;
-    out[at + 6] = (x / 0x1_0000_0000_0000 % 0x100) as u8;
-    out[at + 7] = (x / 0x100_0000_0000_0000 % 0x100) as u8;
+    out[at..at + 8].copy_from_slice(&x.to_le_bytes());
 }
 
 // The numbers in bytes.
@@ -71,10 +59,8 @@ pub fn unpack(s: &[u8], out: &mut [u64])
     requires { length s.now ≡ 8 * length out.old }
     ensures { out.new ≡ words s.now }
 {
-    let mut i = 0;
-    while i < out.len() {
-        out[i] = load(s, 8 * i);
-        i += 1;
+    for (i, x) in out.iter_mut().enumerate() {
+        *x = load(s, 8 * i);
     }
 }
 
@@ -83,18 +69,7 @@ pub fn pack(w: &[u64], out: &mut [u8])
     requires { length out.old ≡ 8 * length w.now }
     ensures { out.new ≡ bytes w.now }
 {
-    let mut i = 0;
-    while i < w.len() {
-        store(out, 8 * i, w[i]);
-        i += 1;
-    }
-}
-
-pub fn copy(from: &[u8], to: &mut [u8])
-    requires { length from.now ≡ length to.old }
-    ensures { to.new ≡ from.now }
-{
-    for i in 0..to.len() {
-        to[i] = from[i];
+    for (i, x) in w.iter().enumerate() {
+        store(out, 8 * i, *x);
     }
 }

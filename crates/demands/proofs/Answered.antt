@@ -228,45 +228,45 @@ answered = record {
     demands_nothing = λ κs lent. tt;
   };
   refusal_record = record {
-    ends = refusals.Refusal.record.Met.met;
+    ends = refusals.RecordFromRefusal.from.Met.met;
     with_outcome = λ w δ γ k wired e.
-        refusals.Refusal.record.Reads.known (at w δ) γ k _ e
-        (refusals.Refusal.record.Met.met w.𝓤 w.𝓛 w.𝓜 (at w δ).𝓡 wired);
+        refusals.RecordFromRefusal.from.Reads.known (at w δ) γ k _ e
+        (refusals.RecordFromRefusal.from.Met.met w.𝓤 w.𝓛 w.𝓜 (at w δ).𝓡 wired);
     demands_nothing = λ κs lent. tt;
   };
-  answer_unless = record {
-    ends = refusals.Answer.unless.Met.met;
+  step_unless = record {
+    ends = refusals.unless.Met.met;
     with_outcome = λ w δ γ k wired e.
-        refusals.Answer.unless.Reads.known (at w δ) γ k _ e
-        (refusals.Answer.unless.Met.met w.𝓤 w.𝓛 w.𝓜 (at w δ).𝓡 wired);
+        refusals.unless.Reads.known (at w δ) γ k _ e
+        (refusals.unless.Met.met w.𝓤 w.𝓛 w.𝓜 (at w δ).𝓡 wired);
     demands_nothing = λ κs lent. tt;
   };
-  answer_sized = record {
-    ends = refusals.Answer.sized.Met.met;
+  step_sized = record {
+    ends = refusals.sized.Met.met;
     with_outcome = λ w δ γ k wired e.
-        refusals.Answer.sized.Reads.known (at w δ) γ k _ e
-        (refusals.Answer.sized.Met.met w.𝓤 w.𝓛 w.𝓜 (at w δ).𝓡 wired);
+        refusals.sized.Reads.known (at w δ) γ k _ e
+        (refusals.sized.Met.met w.𝓤 w.𝓛 w.𝓜 (at w δ).𝓡 wired);
     demands_nothing = λ κs lent. tt;
   };
-  answer_value = record {
-    ends = refusals.Answer.value.Met.met;
+  step_value = record {
+    ends = refusals.value.Met.met;
     with_outcome = λ w δ γ k wired e.
-        refusals.Answer.value.Reads.known (at w δ) γ k _ e
-        (refusals.Answer.value.Met.met w.𝓤 w.𝓛 w.𝓜 (at w δ).𝓡 wired);
+        refusals.value.Reads.known (at w δ) γ k _ e
+        (refusals.value.Met.met w.𝓤 w.𝓛 w.𝓜 (at w δ).𝓡 wired);
     demands_nothing = λ κs lent. tt;
   };
-  answer_numbers = record {
-    ends = refusals.Answer.numbers.Met.met;
+  step_numbers = record {
+    ends = refusals.numbers.Met.met;
     with_outcome = λ w δ γ k wired e.
-        refusals.Answer.numbers.Reads.known (at w δ) γ k _ e
-        (refusals.Answer.numbers.Met.met w.𝓤 w.𝓛 w.𝓜 (at w δ).𝓡 wired);
+        refusals.numbers.Reads.known (at w δ) γ k _ e
+        (refusals.numbers.Met.met w.𝓤 w.𝓛 w.𝓜 (at w δ).𝓡 wired);
     demands_nothing = λ κs lent. tt;
   };
-  answer_packed = record {
-    ends = refusals.Answer.packed.Met.met;
+  step_packed = record {
+    ends = refusals.packed.Met.met;
     with_outcome = λ w δ γ k wired e.
-        refusals.Answer.packed.Reads.known (at w δ) γ k _ e
-        (refusals.Answer.packed.Met.met w.𝓤 w.𝓛 w.𝓜 (at w δ).𝓡 wired);
+        refusals.packed.Reads.known (at w δ) γ k _ e
+        (refusals.packed.Met.met w.𝓤 w.𝓛 w.𝓜 (at w δ).𝓡 wired);
     demands_nothing = λ κs lent. tt;
   };
 }

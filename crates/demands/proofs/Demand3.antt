@@ -13,8 +13,8 @@ use Rattle.lanes.specs.Samplers.{ones}
 use Rattle.refusals.specs.Arguments.{Asked, Each}
 use Rattle.refusals.specs.Judgement.{sign}
 use Rattle.refusals.specs.Answers.{said, into, left, Call}
-use Rattle.refusals.specs.declared.Answer.{Answer}
-use Rattle.refusals.specs.declared.Answer.TheVariants.{Done, Refused}
+use Rattle.refusals.specs.declared.Refusal.{Refusal}
+use Rattle.std.specs.Prelude.{Result, Ok, Err, ⊤}
 use Rattle.refusals.specs.declared.Refusal.TheVariants.{Differs}
 use Rattle.packets.specs.Packets.{sealing, PublicKey, Opened, key, differs, opens, key_or, payload, public_key, keygen, enc, dec}
 use Rattle.packets.specs.Layout.{public_bytes, public_of}
@@ -28,17 +28,17 @@ use Rattle.demands.proofs.Table.{gives-refuses}
 use Rattle.demands.proofs.Ends.{said_done, said-differs, first-buffer, second-buffer, as_given, buffers-given, done_clean}
 
 -- ---- the two ends of opening, from what `dec` is
-module _ (o : Opened) (r : Answer) (old new : List ℕ) (told : said r ≡ verdict o)
+module _ (o : Opened) (r : Result ⊤ Refusal) (old new : List ℕ) (told : said r ≡ verdict o)
     (held : (new ∷ []) ≡ left (verdict o) (into old (key_or o old) ∷ [])) where
   -- what the buffer holds, of any of the two that `dec` may give
   abbrev left_by : Opened → List (List ℕ)
   left_by p = left (verdict p) (into old (key_or p old) ∷ [])
 
-  gives_key : (k : List ℕ) → o ≡ key k → (r ≡ Done) × (new ≡ k)
+  gives_key : (k : List ℕ) → o ≡ key k → (r ≡ Ok tt) × (new ≡ k)
   unfolding verdict opens key_or
   gives_key k e = (said_done r (told ∙ ap verdict e), first-buffer _ _ (held ∙ ap left_by e))
 
-  gives_none : o ≡ differs → (r ≡ Refused Differs) × (new ≡ old)
+  gives_none : o ≡ differs → (r ≡ Err Differs) × (new ≡ old)
   unfolding verdict opens key_or
   gives_none e = (said-differs r (told ∙ ap verdict e), first-buffer _ _ (held ∙ ap left_by e))
 
@@ -46,10 +46,10 @@ one_or_other : (o : Opened) → ((k : List ℕ) × (o ≡ key k)) ⊎ (o ≡ dif
 one_or_other (key k) = inl (k, refl)
 one_or_other differs = inr refl
 
-done_refused : {A : Type 0} (r : Answer) → r ≡ Done → r ≡ Refused Differs → A
+done_refused : {A : Type 0} (r : Result ⊤ Refusal) → r ≡ Ok tt → r ≡ Err Differs → A
 done_refused r d e = gives-refuses [] (sign 3 0 0) (ap said (sym d ∙ e))
 
-opened : (sk ct : List ℕ) (r : Answer) (old new : List ℕ) → length ct ≡ ciphertext_numbers → said r ≡ verdict (dec ones sk ct)
+opened : (sk ct : List ℕ) (r : Result ⊤ Refusal) (old new : List ℕ) → length ct ≡ ciphertext_numbers → said r ≡ verdict (dec ones sk ct)
     → (new ∷ []) ≡ left (verdict (dec ones sk ct)) (into old (key_or (dec ones sk ct) old) ∷ []) → Opening sk ct r old new
 opened sk ct r old new size told held = record {
   exactly = ((λ d. payload_of d (one_or_other (dec ones sk ct))), (λ p. (key_of p.0 p.1).0));
@@ -61,19 +61,19 @@ opened sk ct r old new size told held = record {
     whole : Of-dec ones sk ct
     whole = opening ones sk ct size
 
-    key_of : (m : List ℕ) → Opens ones sk ct m → (r ≡ Done) × (new ≡ sha3_256 m)
+    key_of : (m : List ℕ) → Opens ones sk ct m → (r ≡ Ok tt) × (new ≡ sha3_256 m)
     key_of m o = gives_key (dec ones sk ct) r old new told held _ (whole.its_key m o)
 
-    payload_of : r ≡ Done → ((k : List ℕ) × (dec ones sk ct ≡ key k)) ⊎ (dec ones sk ct ≡ differs) → Payload sk ct
+    payload_of : r ≡ Ok tt → ((k : List ℕ) × (dec ones sk ct ≡ key k)) ⊎ (dec ones sk ct ≡ differs) → Payload sk ct
     payload_of d (inl w) = whole.exactly.0 w
     payload_of d (inr e) = done_refused r d (gives_none (dec ones sk ct) r old new told held e).0
 
-    no_payload : (Payload sk ct → ⊥) → ((k : List ℕ) × (dec ones sk ct ≡ key k)) ⊎ (dec ones sk ct ≡ differs) → (r ≡ Refused Differs) × (new ≡ old)
+    no_payload : (Payload sk ct → ⊥) → ((k : List ℕ) × (dec ones sk ct ≡ key k)) ⊎ (dec ones sk ct ≡ differs) → (r ≡ Err Differs) × (new ≡ old)
     no_payload none (inl w) = absurd (none (whole.exactly.0 w))
     no_payload none (inr e) = gives_none (dec ones sk ct) r old new told held e
 
 -- ---- a call that opens, with every argument as asked
-module _ (args : List Asked) (sk ct : List ℕ) (r : Answer) (old new : List ℕ) (each : Each args)
+module _ (args : List Asked) (sk ct : List ℕ) (r : Result ⊤ Refusal) (old new : List ℕ) (each : Each args)
     (call : Call args (verdict (dec ones sk ct)) (said r) (into old (key_or (dec ones sk ct) old) ∷ []) (new ∷ [])) where
   told_so : said r ≡ verdict (dec ones sk ct)
   told_so = as_given args (verdict (dec ones sk ct)) (said r) _ _ each call
@@ -84,7 +84,7 @@ module _ (args : List Asked) (sk ct : List ℕ) (r : Answer) (old new : List ℕ
   opened_call : length ct ≡ ciphertext_numbers → Opening sk ct r old new
   opened_call size = opened sk ct r old new size told_so held_so
 
-  key_call : (k : List ℕ) → dec ones sk ct ≡ key k → (r ≡ Done) × (new ≡ k)
+  key_call : (k : List ℕ) → dec ones sk ct ≡ key k → (r ≡ Ok tt) × (new ≡ k)
   key_call = gives_key (dec ones sk ct) r old new told_so held_so
 
 -- ---- a packet that `enc` wrote

@@ -8,19 +8,19 @@ use Rattle.refusals.specs.Arguments.{Asked, Each}
 use Rattle.refusals.specs.Judgement.{Told, No, sign, refuses, fine, then, judged}
 use Rattle.refusals.specs.Exactly.{Clean, OneOfThree}
 use Rattle.refusals.specs.Answers.{said, Lent, into, left, Call}
-use Rattle.refusals.specs.declared.Answer.{Answer}
-use Rattle.refusals.specs.declared.Answer.TheVariants.{Done, Refused}
+use Rattle.refusals.specs.declared.Refusal.{Refusal}
+use Rattle.std.specs.Prelude.{Result, Ok, Err, ⊤}
 use Rattle.refusals.specs.declared.Refusal.TheVariants.{Differs}
 use Rattle.refusals.proofs.Exactly.{exactly_0, one_of_three}
 use Rattle.refusals.proofs.Calls.{said-one, each_clean}
 use Rattle.demands.proofs.Table.{gives-refuses}
 
 -- ---- answers, from what they tell
-pub said_done : (r : Answer) → said r ≡ fine → r ≡ Done
-said_done r = said-one r Done
+pub said_done : (r : Result ⊤ Refusal) → said r ≡ fine → r ≡ Ok tt
+said_done r = said-one r (Ok tt)
 
-pub said-differs : (r : Answer) → said r ≡ refuses (sign 3 0 0) → r ≡ Refused Differs
-said-differs r = said-one r (Refused Differs)
+pub said-differs : (r : Result ⊤ Refusal) → said r ≡ refuses (sign 3 0 0) → r ≡ Err Differs
+said-differs r = said-one r (Err Differs)
 
 -- ---- buffers, one by one
 pub first-buffer : (s t : List (List ℕ)) → s ≡ t → get_or s 0 [] ≡ get_or t 0 []
@@ -41,8 +41,8 @@ module _ (args : List Asked) (given answer : Told) (lent : List Lent) (new : Lis
   pub buffers-given : new ≡ left given lent
   buffers-given = call.buffers ∙ ap (λ (t : Told). left (then t given) lent) fine_so
 
-pub filled : (args : List Asked) (r : Answer) (old new result : List ℕ) → Each args → Call args fine (said r) (into old result ∷ []) (new ∷ [])
-    → (r ≡ Done) × (new ≡ result)
+pub filled : (args : List Asked) (r : Result ⊤ Refusal) (old new result : List ℕ) → Each args → Call args fine (said r) (into old result ∷ []) (new ∷ [])
+    → (r ≡ Ok tt) × (new ≡ result)
 filled args r old new result each call = (
   said_done r (as_given args fine (said r) _ _ each call),
   first-buffer _ _ (buffers-given args fine (said r) _ _ each call),
@@ -60,7 +60,7 @@ done_judged args given e = go (one_of_three args)
     go (inr (inl w)) = no _ w.2
     go (inr (inr j)) = j
 
-pub done_clean : (args : List Asked) (r : Answer) (lent : List Lent) (new : List (List ℕ)) → r ≡ Done → Call args fine (said r) lent new
+pub done_clean : (args : List Asked) (r : Result ⊤ Refusal) (lent : List Lent) (new : List (List ℕ)) → r ≡ Ok tt → Call args fine (said r) lent new
     → Clean args × (new ≡ left fine lent)
 done_clean args r lent new d call =
     let j : judged args ≡ fine = done_judged args fine (sym call.answered ∙ ap said d) in

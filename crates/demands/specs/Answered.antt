@@ -100,22 +100,22 @@ pub record Answered : Type 2 where
   pub job : Total _ job.job.Kinds.ps job.job.Kinds.r
       job.job.Symbol.name job.job.Symbol.code
       job.job.Reads.Asked job.job.Reads.Learnt job.job.Statement.statement
-  -- and so are the methods of the types that the calls answer with
-  pub refusal_record : Total _ refusals.Refusal.record.Kinds.ps refusals.Refusal.record.Kinds.r
-      refusals.Refusal.record.Symbol.name refusals.Refusal.record.Symbol.code
-      refusals.Refusal.record.Reads.Asked refusals.Refusal.record.Reads.Learnt refusals.Refusal.record.Statement.statement
-  pub answer_unless : Total _ refusals.Answer.unless.Kinds.ps refusals.Answer.unless.Kinds.r
-      refusals.Answer.unless.Symbol.name refusals.Answer.unless.Symbol.code
-      refusals.Answer.unless.Reads.Asked refusals.Answer.unless.Reads.Learnt refusals.Answer.unless.Statement.statement
-  pub answer_sized : Total _ refusals.Answer.sized.Kinds.ps refusals.Answer.sized.Kinds.r
-      refusals.Answer.sized.Symbol.name refusals.Answer.sized.Symbol.code
-      refusals.Answer.sized.Reads.Asked refusals.Answer.sized.Reads.Learnt refusals.Answer.sized.Statement.statement
-  pub answer_value : Total _ refusals.Answer.value.Kinds.ps refusals.Answer.value.Kinds.r
-      refusals.Answer.value.Symbol.name refusals.Answer.value.Symbol.code
-      refusals.Answer.value.Reads.Asked refusals.Answer.value.Reads.Learnt refusals.Answer.value.Statement.statement
-  pub answer_numbers : Total _ refusals.Answer.numbers.Kinds.ps refusals.Answer.numbers.Kinds.r
-      refusals.Answer.numbers.Symbol.name refusals.Answer.numbers.Symbol.code
-      refusals.Answer.numbers.Reads.Asked refusals.Answer.numbers.Reads.Learnt refusals.Answer.numbers.Statement.statement
-  pub answer_packed : Total _ refusals.Answer.packed.Kinds.ps refusals.Answer.packed.Kinds.r
-      refusals.Answer.packed.Symbol.name refusals.Answer.packed.Symbol.code
-      refusals.Answer.packed.Reads.Asked refusals.Answer.packed.Reads.Learnt refusals.Answer.packed.Statement.statement
+  -- and so are a refusal's record and the steps of judging
+  pub refusal_record : Total _ refusals.RecordFromRefusal.from.Kinds.ps refusals.RecordFromRefusal.from.Kinds.r
+      refusals.RecordFromRefusal.from.Symbol.name refusals.RecordFromRefusal.from.Symbol.code
+      refusals.RecordFromRefusal.from.Reads.Asked refusals.RecordFromRefusal.from.Reads.Learnt refusals.RecordFromRefusal.from.Statement.statement
+  pub step_unless : Total _ refusals.unless.Kinds.ps refusals.unless.Kinds.r
+      refusals.unless.Symbol.name refusals.unless.Symbol.code
+      refusals.unless.Reads.Asked refusals.unless.Reads.Learnt refusals.unless.Statement.statement
+  pub step_sized : Total _ refusals.sized.Kinds.ps refusals.sized.Kinds.r
+      refusals.sized.Symbol.name refusals.sized.Symbol.code
+      refusals.sized.Reads.Asked refusals.sized.Reads.Learnt refusals.sized.Statement.statement
+  pub step_value : Total _ refusals.value.Kinds.ps refusals.value.Kinds.r
+      refusals.value.Symbol.name refusals.value.Symbol.code
+      refusals.value.Reads.Asked refusals.value.Reads.Learnt refusals.value.Statement.statement
+  pub step_numbers : Total _ refusals.numbers.Kinds.ps refusals.numbers.Kinds.r
+      refusals.numbers.Symbol.name refusals.numbers.Symbol.code
+      refusals.numbers.Reads.Asked refusals.numbers.Reads.Learnt refusals.numbers.Statement.statement
+  pub step_packed : Total _ refusals.packed.Kinds.ps refusals.packed.Kinds.r
+      refusals.packed.Symbol.name refusals.packed.Symbol.code
+      refusals.packed.Reads.Asked refusals.packed.Reads.Learnt refusals.packed.Statement.statement

@@ -9,7 +9,8 @@ use Rattle.job_calls.proofs as job
 use Rattle.demands.specs.Outcomes.{Outcome}
 
 abbrev pub RefusalRecord : Type 0
-RefusalRecord = Outcome _ refusals.Refusal.record.Kinds.ps refusals.Refusal.record.Kinds.r refusals.Refusal.record.Reads.Learnt
+RefusalRecord =
+    Outcome _ refusals.RecordFromRefusal.from.Kinds.ps refusals.RecordFromRefusal.from.Kinds.r refusals.RecordFromRefusal.from.Reads.Learnt
 
 abbrev pub FieldNew : Type 0
 FieldNew = Outcome _ field.new.Kinds.ps field.new.Kinds.r field.new.Reads.Learnt

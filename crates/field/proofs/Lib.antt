@@ -2,6 +2,4 @@
 pub mod Fermat
 pub mod Elements
 pub mod Inverses
-pub mod Halves
 pub mod Reduction
-pub mod Sums

@@ -2,62 +2,32 @@
 #![tactic(auto)]
 
 ghost use Rattle.std.specs.Prelude.{◌≡◌, ◌+◌, ◌-◌, ◌*◌, ◌/◌, ◌%◌, ◌^◌, ◌<◌, ◌≤◌};
-ghost use Rattle.field.specs.Field.{P, reduced, wide};
-ghost use Rattle.field.specs.Element.{Good, num, Stands, inverted};
+ghost use Rattle.field.specs.Field.{P, reduced};
+ghost use Rattle.field.specs.Element.{inverted};
 ghost use Rattle.field.specs.Sums.{amount, carries};
 
-// A number of 128 bits in two halves.
-#[derive(Clone, Copy)]
-struct Wide {
-    hi: u64,
-    lo: u64,
-}
+use std::marker::Model;
+use std::ops::{Add, Mul, Neg, Sub};
 
-// The high half of a product, over digits of 32 bits. The halves are two functions, since LLVM then finds the one
-// multiplication that gives both; from one function that gives both it makes four.
-fn high_product(a: u64, b: u64) -> u64
-    ensures { result ≡ a * b / 2 ^ 64 }
-{
-    let a0 = a % 0x1_0000_0000;
-    let a1 = a / 0x1_0000_0000;
-    let b0 = b % 0x1_0000_0000;
-    let b1 = b / 0x1_0000_0000;
-    let t = a1 * b0 + a0 * b0 / 0x1_0000_0000;
-    let w = t % 0x1_0000_0000 + a0 * b1;
-    a1 * b1 + t / 0x1_0000_0000 + w / 0x1_0000_0000
-}
-
-// The low half of a product.
-fn low_product(a: u64, b: u64) -> u64
-    ensures { result ≡ a * b % 2 ^ 64 }
-{
-    let a0 = a % 0x1_0000_0000;
-    let a1 = a / 0x1_0000_0000;
-    let b0 = b % 0x1_0000_0000;
-    let b1 = b / 0x1_0000_0000;
-    let middle = std::num::wrapping_add_u64(a1 * b0, a0 * b1);
-    std::num::wrapping_add_u64(middle << 32, a0 * b0)
-}
+// What the high half of a number of 128 bits counts.
+const HALF: u128 = 0x1_0000_0000_0000_0000;
 
 // The product of two numbers of 64 bits.
-fn product(a: u64, b: u64) -> Wide
-    ensures { wide result.hi result.lo ≡ a * b }
+fn product(a: u64, b: u64) -> u128
+    ensures { result ≡ a * b }
 {
-    Wide {
-        hi: high_product(a, b),
-        lo: low_product(a, b),
-    }
+    u128::from(a) * u128::from(b)
 }
 
-// The difference modulo p, for b at most p; it is canonical where a is. The borrow that the wrapping difference loses is
-// recovered by a comparison; taken by an `if` over both results it becomes one conditional move, also in the sum.
+// The difference modulo p, for b at most p; it is canonical where a is. Taken by an `if` over both results, the borrow that the
+// wrapping difference loses becomes one conditional move, also in the sum.
 fn sub_lazy(a: u64, b: u64) -> u64
     requires { b ≤ P }
     ensures { (result % P ≡ (a + (P - b)) % P) × (a < P → result < P) }
 {
-    let x = std::num::wrapping_sub_u64(a, b);
-    if a < b {
-        std::num::wrapping_add_u64(x, BFieldElement::P)
+    let (x, is_lost) = a.overflowing_sub(b);
+    if is_lost {
+        x.wrapping_add(BFieldElement::P)
     } else {
         x
     }
@@ -68,9 +38,9 @@ pub fn add_lazy(a: u64, b: u64) -> u64
     requires { b ≤ P }
     ensures { result % P ≡ (a + b) % P }
 {
-    let x = std::num::wrapping_add_u64(a, b);
-    if x < b {
-        std::num::wrapping_add_u64(x, 0xffff_ffff)
+    let (x, is_lost) = a.overflowing_add(b);
+    if is_lost {
+        x.wrapping_add(0xffff_ffff)
     } else {
         x
     }
@@ -87,6 +57,7 @@ pub fn canonical(x: u64) -> u64
     }
 }
 
+// Stays: a and b are plain numbers with a `requires` and no type of their own, since what C lends is slices of u64 (`ring_elements`).
 pub fn sub_mod_p(a: u64, b: u64) -> u64
     requires { (a < P) × (b ≤ P) }
     ensures { (result ≡ (a + (P - b)) % P) × (result < P) }
@@ -103,16 +74,17 @@ pub fn add_mod_p(a: u64, b: u64) -> u64
 }
 
 // Montgomery's reduction: x / 2^64 modulo p, where the high half of x is below p.
-fn montyred(x: Wide) -> u64
-    requires { x.hi < P }
-    ensures { (result ≡ reduced (wide x.hi x.lo)) × (result < P) }
+fn montyred(x: u128) -> u64
+    requires { x / 2 ^ 64 < P }
+    ensures { (result ≡ reduced x) × (result < P) }
 {
-    let xl = x.lo;
-    let a = std::num::wrapping_add_u64(xl, xl << 32);
-    // the carry that the wrapping sum loses
-    let e = if a < xl { 1 } else { 0 };
-    let b = std::num::wrapping_sub_u64(std::num::wrapping_sub_u64(a, a >> 32), e);
-    sub_mod_p(x.hi, b)
+    let xl = (x % HALF) as u64;
+    let xh = (x / HALF) as u64;
+    let a = xl.wrapping_add(xl << 32);
+    // Stays: a comparison, since from the flag of `overflowing_add` a transform takes eight percent more instructions.
+    let e = u64::from(a < xl);
+    let b = a.wrapping_sub(a >> 32).wrapping_sub(e);
+    sub_mod_p(xh, b)
 }
 
 // a b / 2^64 modulo p, for a below p: a product of words, or of a word and a plain number.
@@ -124,6 +96,7 @@ fn reduced_product(a: u64, b: u64) -> u64
 }
 
 // A sum of products of plain numbers, top 2^128 + hi 2^64 + lo, to be reduced once. Made and read only through its functions.
+// Stays: three words, since with the lower two as one u128 a matrix product takes two percent more instructions.
 #[derive(Clone, Copy)]
 pub struct SumOfProducts {
     lo: u64,
@@ -131,36 +104,32 @@ pub struct SumOfProducts {
     top: u64,
 }
 
+#[tactic(auto, unfolding(crate::specs::Sums::amount, crate::specs::Sums::carries))]
 pub fn first_product(a: u64, b: u64) -> SumOfProducts
     ensures { (amount result ≡ a * b) × (carries result ≡ 0) }
 {
-    let x = product(a, b);
-    SumOfProducts {
-        lo: x.lo,
-        hi: x.hi,
-        top: 0,
-    }
+    let (lo, hi) = a.carrying_mul(b, 0);
+    SumOfProducts { lo, hi, top: 0 }
 }
 
-// One product more. A carry read off a comparison with what was added becomes an add with carry.
+// One product more.
+#[tactic(auto, unfolding(crate::specs::Sums::amount, crate::specs::Sums::carries))]
 pub fn plus_product(s: SumOfProducts, a: u64, b: u64) -> SumOfProducts
     requires { carries s < 2 ^ 64 - 1 }
     ensures { (amount result ≡ amount s + a * b) × (carries result ≤ carries s + 1) }
 {
-    let x = product(a, b);
-    let lo = std::num::wrapping_add_u64(x.lo, s.lo);
-    let c = if lo < x.lo { 1 } else { 0 };
-    let h = x.hi + c;
-    let hi = std::num::wrapping_add_u64(h, s.hi);
-    let d = if hi < h { 1 } else { 0 };
+    let (lo, h) = a.carrying_mul(b, s.lo);
+    let (hi, is_lost) = h.overflowing_add(s.hi);
+    let d = u64::from(is_lost);
     SumOfProducts {
-        lo: lo,
-        hi: hi,
+        lo,
+        hi,
         top: s.top + d,
     }
 }
 
 // The sum modulo p: 2^64 is 2^32 - 1, 2^96 is -1 and 2^128 is -2^32.
+#[tactic(auto, unfolding(crate::specs::Sums::amount, crate::specs::Sums::carries))]
 pub fn sum_mod_p(s: SumOfProducts) -> u64
     requires { carries s < 2 ^ 32 - 1 }
     ensures { (result ≡ amount s % P) × (result < P) }
@@ -170,15 +139,24 @@ pub fn sum_mod_p(s: SumOfProducts) -> u64
     canonical(add_lazy(sub_lazy(s.lo, down), up))
 }
 
-// A field element: its Montgomery word, made and read only through its functions.
+// A field element: its Montgomery word, made and read only through its functions. A contract sees the number that it stands for.
 #[derive(Clone, Copy)]
 pub struct BFieldElement(u64);
 
-// What asking for an inverse gives.
-#[derive(Clone, Copy)]
-pub enum Inverted {
-    Inverse(BFieldElement),
-    OfZero,
+impl Model for BFieldElement {
+    ghost use Rattle.std.specs.Prelude.{ℕ};
+    ghost use Rattle.field.specs.Element.{Good, num, element};
+    ghost use Rattle.field.specs.Words.{element_is};
+
+    ghost Value = { ℕ };
+
+    ghost view = { num };
+
+    ghost invariant = { Good };
+
+    ghost inverse = { element };
+
+    ghost inverse_ok = { element_is };
 }
 
 impl BFieldElement {
@@ -195,8 +173,9 @@ impl BFieldElement {
         ensures r2 { BFieldElement.R2 ≡ 2 ^ 128 % P }
     {}
 
+    #[tactic(auto, using(crate::proofs::Elements::num_new))]
     pub fn new(value: u64) -> Self
-        ensures { Stands result (value % P) }
+        ensures { result ≡ value % P }
     {
         BFieldElement(reduced_product(Self::R2, value))
     }
@@ -204,98 +183,67 @@ impl BFieldElement {
     // The element of a word, for tables of them.
     pub fn from_word(word: u64) -> Self
         requires { word < P }
-        ensures { Stands result (reduced word) }
+        ensures { result ≡ reduced word }
     {
         BFieldElement(word)
     }
 
     pub fn value(self) -> u64
-        ensures { result ≡ num self }
+        ensures { (result ≡ self) × (result < P) }
     {
-        montyred(Wide { hi: 0, lo: self.0 })
-    }
-
-    pub fn add(self, rhs: Self) -> Self
-        requires { Good self × Good rhs }
-        ensures { Stands result ((num self + num rhs) % P) }
-    {
-        BFieldElement(add_mod_p(self.0, rhs.0))
-    }
-
-    pub fn sub(self, rhs: Self) -> Self
-        requires { Good self × Good rhs }
-        ensures { Stands result ((num self + (P - num rhs)) % P) }
-    {
-        BFieldElement(sub_mod_p(self.0, rhs.0))
-    }
-
-    pub fn mul(self, rhs: Self) -> Self
-        requires { Good self × Good rhs }
-        ensures { Stands result ((num self * num rhs) % P) }
-    {
-        BFieldElement(reduced_product(self.0, rhs.0))
+        montyred(u128::from(self.0))
     }
 
     // The element times a plain number, as a plain number: one reduction and no conversion.
+    #[tactic(auto, using(crate::proofs::Elements::num_scaled))]
     pub fn scaled(self, x: u64) -> u64
-        requires { Good self }
-        ensures { (result ≡ (num self * x) % P) × (result < P) }
+        ensures { (result ≡ (self * x) % P) × (result < P) }
     {
         reduced_product(self.0, x)
     }
 
-    pub fn neg(self) -> Self
-        requires { Good self }
-        ensures { Stands result ((P - num self) % P) }
-    {
-        BFieldElement(sub_mod_p(0, self.0))
-    }
-
     // By squaring and multiplying from the exponent's top digit down; 0 to the power 0 is 1.
     pub fn mod_pow(self, exp: u64) -> Self
-        requires { Good self }
-        ensures { Stands result ((num self ^ exp) % P) }
+        ensures { result ≡ (self ^ exp) % P }
     {
+        let _ = &self.0; // so that the proof knows that the number is below p
         let mut acc = BFieldElement::new(1);
-        let mut digits = 64 - u64::leading_zeros(exp);
-        while 0 < digits {
-            digits -= 1;
-            acc = acc.mul(acc);
-            let is_one = (exp >> digits) % 2 == 1;
+        for digit in (0..64 - exp.leading_zeros()).rev() {
+            acc = acc * acc;
+            let is_one = (exp >> digit) % 2 == 1;
             if is_one {
-                acc = acc.mul(self);
+                acc = acc * self;
             }
         }
         acc
     }
 
     // The element squared so many times: B's `exp`.
+    #[tactic(auto, using(crate::proofs::Elements::squares))]
     fn squared(self, times: u32) -> Self
-        requires { Good self }
-        ensures { Stands result ((num self ^ (2 ^ times)) % P) }
+        ensures { result ≡ (self ^ (2 ^ times)) % P }
     {
+        let _ = &self.0; // so that the proof knows that the number is below p
         let mut res = self;
-        let mut i: u32 = 0;
-        while i < times {
-            res = res.mul(res);
-            i += 1;
+        for _ in 0..times {
+            res = res * res;
         }
         res
     }
 
     // From powers x^a and x^b the power x^(a 2^n + b): the n binary digits of b come behind those of a.
+    #[tactic(auto, using(laws::proofs::Congruence::mul_mod_l))]
     fn append(self, n: u32, low: Self) -> Self
-        requires { Good self × Good low }
-        ensures { Stands result ((num self ^ (2 ^ n) * num low) % P) }
+        ensures { result ≡ (self ^ (2 ^ n) * low) % P }
     {
-        self.squared(n).mul(low)
+        self.squared(n) * low
     }
 
     // The power p - 2 by B's chain: in binary p - 2 is 31 ones, a zero and 32 ones.
     fn to_p_minus_2(self) -> Self
-        requires { Good self }
-        ensures { Stands result ((num self ^ (P - 2)) % P) }
+        ensures { result ≡ (self ^ (P - 2)) % P }
     {
+        let _ = &self.0; // so that the proof knows that the number is below p
         let x = self;
         let bin_2_ones = x.append(1, x);
         let bin_3_ones = bin_2_ones.append(1, x);
@@ -304,21 +252,66 @@ impl BFieldElement {
         let bin_24_ones = bin_12_ones.append(12, bin_12_ones);
         let bin_30_ones = bin_24_ones.append(6, bin_6_ones);
         let bin_31_ones = bin_30_ones.append(1, x);
-        let bin_31_ones_1_zero = bin_31_ones.mul(bin_31_ones);
-        let bin_32_ones = bin_31_ones_1_zero.mul(x);
+        let bin_31_ones_1_zero = bin_31_ones * bin_31_ones;
+        let bin_32_ones = bin_31_ones_1_zero * x;
         bin_31_ones_1_zero.append(32, bin_32_ones)
     }
 
-    pub fn inverse(self) -> Inverted
-        requires { Good self }
-        ensures { result ≡ inverted (num self) }
+    // 0 has none.
+    #[tactic(auto, using(crate::proofs::Inverses::inverses))]
+    pub fn inverse(self) -> Option<Self>
+        ensures { result ≡ inverted self }
     {
         let word = self.0;
         let is_zero = word == 0;
         if is_zero {
-            Inverted::OfZero
+            None
         } else {
-            Inverted::Inverse(self.to_p_minus_2())
+            Some(self.to_p_minus_2())
         }
+    }
+}
+
+impl Add for BFieldElement {
+    type Output = Self;
+
+    ghost add_gives = { λ a b r. r ≡ (a + b) % P };
+
+    #[tactic(auto, using(crate::proofs::Elements::num_add))]
+    fn add(self, rhs: Self) -> Self {
+        BFieldElement(add_mod_p(self.0, rhs.0))
+    }
+}
+
+impl Sub for BFieldElement {
+    type Output = Self;
+
+    ghost sub_gives = { λ a b r. r ≡ (a + (P - b)) % P };
+
+    #[tactic(auto, using(crate::proofs::Elements::num_sub))]
+    fn sub(self, rhs: Self) -> Self {
+        BFieldElement(sub_mod_p(self.0, rhs.0))
+    }
+}
+
+impl Mul for BFieldElement {
+    type Output = Self;
+
+    ghost mul_gives = { λ a b r. r ≡ (a * b) % P };
+
+    #[tactic(auto, using(crate::proofs::Elements::num_mul))]
+    fn mul(self, rhs: Self) -> Self {
+        BFieldElement(reduced_product(self.0, rhs.0))
+    }
+}
+
+impl Neg for BFieldElement {
+    type Output = Self;
+
+    ghost neg_gives = { λ a r. r ≡ (P - a) % P };
+
+    #[tactic(auto, using(crate::proofs::Elements::num_neg))]
+    fn neg(self) -> Self {
+        BFieldElement(sub_mod_p(0, self.0))
     }
 }

@@ -1,40 +1,15 @@
 -- How an answer becomes what a caller in another language gets, and that two outcomes which a contract allows are the same.
 use mathlib.Core.Path.{◌≡◌, refl, sym, ◌∙◌}
-use mathlib.Core.List.{List, [], ◌∷◌}
+use mathlib.Core.List.{List, []}
 use Prim.Native.Nat.{ℕ}
 use native.Mathlib.Omega.{arith}
+use Rattle.std.specs.Prelude.{Result, Ok, Err, ⊤}
 use Rattle.refusals.specs.Arguments.{Asked}
-use Rattle.refusals.specs.Judgement.{Told, sign}
-use Rattle.refusals.specs.Answers.{paper, said, told, Lent, tells, Call}
+use Rattle.refusals.specs.Judgement.{Told}
+use Rattle.refusals.specs.Answers.{said, Lent, tells, Call}
 use Rattle.refusals.specs.declared.Refusal.{Refusal}
 use Rattle.refusals.specs.declared.Refusal.TheVariants.{Length, Coefficient, Differs, InverseOfZero, NoJob}
-use Rattle.refusals.specs.declared.Given.{Given}
-use Rattle.refusals.specs.declared.Given.TheVariants.{Value, NotGiven}
-use Rattle.refusals.specs.declared.Answer.{Answer}
-use Rattle.refusals.specs.declared.Answer.TheVariants.{Done, Refused}
-use Rattle.galmuriec_c.specs.Boundary.{status, entry, given, Reports, Leaves, Delivers}
-
--- ---- an answer reported
-pub reports_done : (v : Answer) → v ≡ Done → Reports (said v) 0 (0 ∷ 0 ∷ 0 ∷ [])
-unfolding status entry
-reports_done v e = rw e (record { returned = refl; recorded = refl })
-
--- m and b are the record's first two numbers, made wider
-pub reports_no : (v : Answer) (r : Refusal) (n a i m b : ℕ) → v ≡ Refused r → sign n a i ≡ paper r → m ≡ n → b ≡ a
-    → Reports (said v) m (m ∷ b ∷ i ∷ [])
-unfolding status entry
-reports_no v r n a i m b e f g h = rw (e, ← f, g, h) (record { returned = refl; recorded = refl })
-
--- ---- a number given, or not
-pub delivers_value : (g : Given) (x s : ℕ) (refusal : List ℕ) (old : ℕ) → g ≡ Value x → Reports (said Done) s refusal
-    → Delivers (told g) s refusal old x
-unfolding given status entry
-delivers_value g x s refusal old e f = rw e (record { reports = record { returned = f.returned; recorded = f.recorded }; number = refl })
-
-pub delivers_none : (g : Given) (r : Refusal) (s : ℕ) (refusal : List ℕ) (old : ℕ) → g ≡ NotGiven r → Reports (said (Refused r)) s refusal
-    → Delivers (told g) s refusal old old
-unfolding given
-delivers_none g r s refusal old e f = rw e (record { reports = f; number = refl })
+use Rattle.galmuriec_c.specs.Boundary.{status, Reports, Leaves, Delivers}
 
 -- ---- the end of a call, for search: from what the call behind it promises of its answer
 pub delivered : (args : List Asked) (g u t : Told) (s : ℕ) (refusal : List ℕ) (old new : ℕ) → Call args g u [] [] → Delivers u s refusal old new
@@ -62,11 +37,11 @@ delivers_one t s s' l l' old new new' f g =
     (r.0, r.1, f.number ∙ sym g.number)
 
 -- ---- 0 is returned exactly where the call is done
-pub zero_done : (v : Answer) → status (said v) ≡ 0 → v ≡ Done
+pub zero_done : (v : Result ⊤ Refusal) → status (said v) ≡ 0 → v ≡ Ok tt
 unfolding status
-zero_done Done e = refl
-zero_done (Refused (Length a)) e = absurd (omega (arith, e))
-zero_done (Refused (Coefficient a i)) e = absurd (omega (arith, e))
-zero_done (Refused Differs) e = absurd (omega (arith, e))
-zero_done (Refused InverseOfZero) e = absurd (omega (arith, e))
-zero_done (Refused NoJob) e = absurd (omega (arith, e))
+zero_done (Ok done) e = refl
+zero_done (Err (Length a)) e = absurd (omega (arith, e))
+zero_done (Err (Coefficient a i)) e = absurd (omega (arith, e))
+zero_done (Err Differs) e = absurd (omega (arith, e))
+zero_done (Err InverseOfZero) e = absurd (omega (arith, e))
+zero_done (Err NoJob) e = absurd (omega (arith, e))

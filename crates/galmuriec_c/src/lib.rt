@@ -21,39 +21,40 @@ ghost use Rattle.packets.specs.Layout.{public_bytes, public_of};
 ghost use Rattle.job_calls.specs.Jobs.{job_answer, Writes};
 ghost use Rattle.galmuriec_c.specs.Boundary.{Reports, Delivers, FillsC, FillsTwoC, GivesC, UnsealsC};
 
-use refusals::{Answer, Given};
+use refusals::{Record, Refusal};
 
 // ---- what every call ends with
-fn wide(x: u8) -> u64
-    ensures { result ≡ x }
-{
-    x as u64
-}
-
 // The answer as a number, and its refusal in the lent record.
-fn report(answer: Answer, refusal: &mut [u64; 3]) -> u64
+// Stays: the C interface takes a refusal as numbers (`galmuriec_refusal` of include/galmuriec.h), and so do the calls below.
+#[tactic(auto, unfolding(crate::specs::Boundary::status, crate::specs::Boundary::entry))]
+fn report(answer: Result<(), Refusal>, refusal: &mut [u64; 3]) -> u64
     ensures { Reports (said answer) result refusal.new }
 {
-    let Answer::Refused(r) = answer else {
-        *refusal = [0, 0, 0];
-        return 0;
-    };
-    let record = r.record();
-    let number = wide(record.number);
-    *refusal = [number, wide(record.argument), record.place];
-    number
+    match answer {
+        Ok(()) => {
+            *refusal = [0, 0, 0];
+            0
+        }
+        Err(r) => {
+            let record = Record::from(r);
+            let number = u64::from(record.number);
+            *refusal = [number, u64::from(record.argument), record.place];
+            number
+        }
+    }
 }
 
 // The same, and the number given.
-fn deliver(answer: Given, res: &mut u64, refusal: &mut [u64; 3]) -> u64
+#[tactic(auto, unfolding(crate::specs::Boundary::status, crate::specs::Boundary::entry, crate::specs::Boundary::given))]
+fn deliver(answer: Result<u64, Refusal>, res: &mut u64, refusal: &mut [u64; 3]) -> u64
     ensures { Delivers (told answer) result refusal.new res.old res.new }
 {
     match answer {
-        Given::NotGiven(r) => report(Answer::Refused(r), refusal),
-        Given::Value(x) => {
+        Ok(x) => {
             *res = x;
-            report(Answer::Done, refusal)
+            report(Ok(()), refusal)
         }
+        Err(r) => report(Err(r), refusal),
     }
 }
 

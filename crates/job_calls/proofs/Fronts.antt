@@ -4,18 +4,19 @@ use mathlib.Core.List.{List, [], ◌∷◌, ◌++◌, append_assoc, append-nil}
 use Prim.Native.Nat.{ℕ, suc, ◌+◌, ◌-◌, ◌≤◌, ◌<◌}
 use native.Mathlib.Numerals.{add-one}
 use native.Mathlib.Omega.{arith}
-use lib.ListN.{length, get_or, replicate, drop, set, length-set, length-append}
+use lib.ListN.{length, get_or, drop, set, length-append}
 use lib.Seq.{take_at, drop_at, drop-drop}
 use borrow.Author.Tests.{le-leb, lt-leb}
+use Rattle.std.specs.Int.{to_le_bytes}
+use Rattle.std.proofs.Common.{w64}
+use native.Mathlib.Nat.{div-one}
 use Rattle.laws.proofs.Parts.{put}
+use Rattle.laws.specs.Digits.{digit}
 use Rattle.laws.specs.Lists.{tab, tab_from}
-use Rattle.codec.specs.Layout.{bytes, with_word}
+use Rattle.codec.specs.Layout.{bytes}
 use Rattle.refusals.specs.Arguments.{Asked}
 use Rattle.refusals.specs.Judgement.{Told, No, sign, gives, refuses, then, judged}
-use Rattle.refusals.specs.Answers.{said, paper, Lent, into, left as left-of, tells, Call}
-use Rattle.refusals.specs.declared.Answer.{Answer}
-use Rattle.refusals.specs.declared.Answer.TheVariants.{Done, Refused}
-use Rattle.refusals.specs.declared.Refusal.{Refusal}
+use Rattle.refusals.specs.Answers.{Lent, into, left as left-of, tells, Call}
 use Rattle.packets.specs.Packets.{Opened, key, differs, opens, key_or}
 use Rattle.kem_calls.specs.Verdict.{verdict}
 use Rattle.job_calls.specs.Jobs.{Writes, fitted, written, ten}
@@ -33,18 +34,12 @@ unfolding fitted
 fitted_no answer old h = simp (lt-leb _ _ h)
 
 -- ---- a part, put in its place
-pub put_is : (k : ℕ) (r r' old : List ℕ) → r' ≡ r → put k (k + length r - k) r' old ≡ put k (length r) r old
-put_is k r r' old e =
-    let n : k + length r - k ≡ length r = omega arith in
-    rw (e, n)
+put_is : (k n : ℕ) (r r' old : List ℕ) → n ≡ length r → r' ≡ r → put k n r' old ≡ put k (length r) r old
+put_is k n r r' old size e = rw (e, size) refl
 
 -- ---- one byte and two parts behind it
 size : (h : ℕ) (p q : List ℕ) → length p + 1 + length q ≡ length (h ∷ (p ++ q))
 size h p q = simp (length-append) (omega arith)
-
--- there is room for the first behind the byte
-pub room-first : (h p q : ℕ) (old : List ℕ) → p + 1 + q ≤ length old → 1 + p ≤ length (set old 0 h)
-room-first h p q old r = simp length-set (omega arith)
 
 two_parts : (h : ℕ) (p q rest : List ℕ)
     → put (suc (length p)) (length q) q (h ∷ (p ++ drop (length p) rest)) ≡ h ∷ ((p ++ q) ++ drop (length q) (drop (length p) rest))
@@ -62,35 +57,31 @@ laid h p q (x ∷ rest) r =
     ∙ two_parts h p q rest
     ∙ ap (λ (t : List ℕ). h ∷ ((p ++ q) ++ t)) (drop-drop (length q) (length p) rest ∙ ap (λ (k : ℕ). drop k rest) (sym (length-append p q)))
 
-pub wrote : (h : ℕ) (p q old mid new : List ℕ) → new ≡ put (length p + 1) (length q) q mid → mid ≡ put 1 (length p) p (set old 0 h)
-    → length p + 1 + length q ≤ length old → Writes (h ∷ (p ++ q)) (length p + 1 + length q) old new
-wrote h p q old mid new f e r = record {
-  count = size h p q;
-  buffer = rw (f, e) (laid h p q old r ∙ fitted_yes (h ∷ (p ++ q)) old (omega (arith, size h p q)));
-}
+pub wrote : (h : ℕ) (p p' q q' old : List ℕ) → p' ≡ p → q' ≡ q → length p + 1 + length q ≤ length old
+    → Writes (h ∷ (p ++ q)) (length p + 1 + length q) old
+    (put (length p + 1) (length p + 1 + length q - (length p + 1)) q' (put 1 (length p + 1 - 1) p' (set old 0 h)))
+wrote h p p' q q' old e f r =
+    let first = put_is 1 (length p + 1 - 1) p p' (set old 0 h) (omega arith) e in
+    let second = put_is (length p + 1) (length p + 1 + length q - (length p + 1)) q q' (put 1 (length p) p (set old 0 h)) (omega arith) f in
+    record {
+      count = size h p q;
+      buffer = rw (first, second) (laid h p q old r ∙ fitted_yes (h ∷ (p ++ q)) old (omega (arith, size h p q)));
+    }
 
 pub no_room : (h : ℕ) (p q old : List ℕ) → length old < length p + 1 + length q → Writes (h ∷ (p ++ q)) (length p + 1 + length q) old old
 no_room h p q old r = record { count = size h p q; buffer = fitted_no (h ∷ (p ++ q)) old (omega (arith, size h p q)) }
 
 -- ---- what a call answered
-pub tells_done : (v : Answer) (out : List ℕ) (n : ℕ) (old new : List ℕ) → v ≡ Done → Writes (0 ∷ out) n old new
-    → Writes (written (said v) out) n old new
-unfolding written
-tells_done v out n old new e w = rw e w
-
-pub tells-refused : (v : Answer) (r : Refusal) (out : List ℕ) (n : ℕ) (old new : List ℕ) → v ≡ Refused r → Writes (ten (paper r)) n old new
-    → Writes (written (said v) out) n old new
-unfolding written
-tells-refused v r out n old new e w = rw e w
-
 -- a refusal, written by its parts
-ten-bytes : (n a i : ℕ) (r : No) (place : List ℕ) → sign n a i ≡ r → place ≡ with_word (replicate 8 0) 0 i → n ∷ ((a ∷ []) ++ place) ≡ ten r
-unfolding ten bytes tab tab_from
-ten-bytes n a i r place e f = ap (λ (s : List ℕ). n ∷ ((a ∷ []) ++ s)) f ∙ ap ten e
+place_bytes : (i : ℕ) → to_le_bytes w64 i ≡ bytes (i ∷ [])
+unfolding bytes tab tab_from digit
+place_bytes i = rw (div-one i) refl
 
-pub writes_ten : (n a i k : ℕ) (r : No) (place old new : List ℕ) → sign n a i ≡ r → place ≡ with_word (replicate 8 0) 0 i
+pub writes_ten : (n a i k : ℕ) (r : No) (place old new : List ℕ) → sign n a i ≡ r → place ≡ to_le_bytes w64 i
     → Writes (n ∷ ((a ∷ []) ++ place)) k old new → Writes (ten r) k old new
-writes_ten n a i k r place old new e f w = subst (λ (l : List ℕ). Writes l k old new) (ten-bytes n a i r place e f) w
+unfolding ten
+writes_ten n a i k r place old new e f w =
+    rw (← e) (subst (λ (l : List ℕ). Writes (n ∷ ((a ∷ []) ++ l)) k old new) (f ∙ place_bytes i) w)
 
 -- what is given, where nothing is told against it, is what was filled
 pub two_filled : (t u : Told) (b b' : Lent) (new new' : List ℕ) → u ≡ t → new ∷ new' ∷ [] ≡ left-of t (b ∷ b' ∷ [])

@@ -1,13 +1,6 @@
 -- The front of an input has the input's answer, where it is all of the input or longer than any job.
-use mathlib.Core.Bool.{Bool, true, false}
-use mathlib.Core.Path.{◌≡◌, refl, sym, ◌∙◌, ap, subst}
-use mathlib.Core.List.{List}
-use native.Mathlib.Omega.{arith}
-use Prim.Native.Nat.{ℕ, ◌-◌, ◌≤◌, ◌<◌}
-use lib.Dec.{leb}
-use lib.ListN.{length, take}
-use lib.Seq.{take_all, length-take-le}
-use borrow.Author.Tests.{ne_eqb, leb-true, leb-false}
+use Rattle.std.proofs.Common.{Bool, true, false, ◌≡◌, refl, sym, ◌∙◌, ap, subst, List, ℕ, ◌≤◌, ◌<◌, leb, length, take, arith}
+use Rattle.std.proofs.Common.{take_all, length-take-le, ne_eqb, leb-true, leb-false}
 use Rattle.refusals.specs.Judgement.{sign}
 use Rattle.job_calls.specs.Jobs.{keygen_job_bytes, enc_job_bytes, dec_job_bytes, longest_answer, is_job, job_answer, ten, Writes}
 use Rattle.job_calls.proofs.Sizes.{answer-size}
@@ -31,14 +24,12 @@ same_answer false k s t f h e =
 
 -- what `job` wrote for the bytes that were read answers the input
 pub answers : (buf : List ℕ) (n m : ℕ) (old new : List ℕ) → dec_job_bytes < length buf
-    → Writes (job_answer (take (n - 0) buf)) m old new → (m ≤ longest_answer) × Answers buf n m old new
+    → Writes (job_answer (take n buf)) m old new → (m ≤ longest_answer) × Answers buf n m old new
 answers buf n m old new h w =
-    let same : n - 0 ≡ n = omega arith in
-    let front = take (n - 0) buf in
-    let k = length buf in (
+    let k = length buf in
+    let front = take n buf in (
       omega (arith, w.count, answer-size front),
       record {
-        each = λ input holds. subst (λ (a : List ℕ). Writes a m old new)
-            (sym (same_answer (leb (length input) k) k input front refl h (holds ∙ sym (ap (λ (i : ℕ). take i buf) same)))) w;
+        each = λ input holds. subst (λ (a : List ℕ). Writes a m old new) (sym (same_answer (leb (length input) k) k input front refl h holds)) w;
       },
     )

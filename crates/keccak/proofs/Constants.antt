@@ -2,11 +2,12 @@
 use mathlib.Core.Path.{◌≡◌, refl, sym, ap, ap₂, ◌∙◌}
 use mathlib.Core.Bool.{Bool}
 use mathlib.Core.List.{List, [], ◌∷◌}
-use Prim.Native.Nat.{ℕ, zero, suc, ◌+◌, ◌-◌, ◌*◌, ◌^◌, ◌<◌, ◌≤◌}
+use Prim.Native.Nat.{ℕ, zero, suc, ◌+◌, ◌-◌, ◌*◌, ◌/◌, ◌%◌, ◌^◌, ◌<◌, ◌≤◌}
 use native.Mathlib.Nat.{mod-eq_of_lt}
 use native.Mathlib.Omega.{arith}
 use lib.Dec.{T, eqb, eqb→eq, ltb, ltb→lt}
 use lib.ListN.{get_or}
+use Rattle.std.specs.Simd.{first_chunks}
 use Rattle.laws.specs.Bits.{bit}
 use Rattle.laws.specs.Choices.{pick}
 use Rattle.laws.proofs.Lists.{is_tab}
@@ -78,6 +79,26 @@ constant_number i h = marks-sum 7 i (omega arith) h ∙ sum_number i h
 pub constants-numbers : constants ≡ numbers
 unfolding constants numbers
 constants-numbers = sym (is_tab 24 constant 0 numbers refl (λ i h. sym (constant_number i h)))
+
+-- in fours
+unfoldable pub fours : List (List ℕ)
+fours = first_chunks 4 6 numbers
+
+abbrev four_right : ℕ → Bool
+four_right n = eqb (get_or (get_or fours (n / 4) []) (n % 4) 0) (get_or numbers n 0)
+
+fours_right : (n : ℕ) → n < 24 → T (four_right n)
+unfolding fours numbers
+fours_right = all-at four_right 24 tt
+
+pub four_constant : (i j : ℕ) → i < 6 → j < 4 → get_or (get_or fours i []) j 0 ≡ get_or constants (4 * i + j) 0
+four_constant i j hi hj =
+    let n = 4 * i + j in
+    let row : n / 4 ≡ i = omega arith in
+    let place : n % 4 ≡ j = omega arith in
+    sym (ap₂ (λ (k m : ℕ). get_or (get_or fours k []) m 0) row place)
+    ∙ eqb→eq (get_or (get_or fours (n / 4) []) (n % 4) 0) (get_or numbers n 0) (fours_right n (omega arith))
+    ∙ ap (λ (l : List ℕ). get_or l n 0) (sym constants-numbers)
 
 numbers_fit : (i : ℕ) → i < 24 → T (ltb (get_or numbers i 0) (2 ^ 64))
 unfolding numbers

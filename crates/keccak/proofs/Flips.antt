@@ -1,20 +1,22 @@
 -- A round of a state with complemented lanes: what is complemented stays so.
 use mathlib.Core.Path.{◌≡◌, refl, sym, ap, ap₂, ◌∙◌}
 use mathlib.Core.Bool.{Bool, true, false, not, ◌||◌}
-use mathlib.Core.List.{List}
-use Prim.Native.Nat.{ℕ, ◌+◌, ◌-◌, ◌*◌, ◌%◌, ◌^◌, ◌<◌, ◌≤◌}
+use mathlib.Core.List.{List, [], ◌∷◌}
+use Prim.Native.Nat.{ℕ, zero, suc, ◌+◌, ◌-◌, ◌*◌, ◌%◌, ◌^◌, ◌<◌, ◌≤◌}
 use native.Mathlib.Omega.{arith}
 use lib.Bits.{bit_xor, bit_and, bit_or, xor_lt, and_lt}
-use lib.Dec.{eqb}
+use lib.Dec.{eqb, ltb, ltb→lt}
 use lib.ListN.{get_or, length}
 use lib.Pow.{pow_pos}
 use Rattle.laws.specs.Lists.{Below, tab, tab_from}
 use Rattle.laws.proofs.Bits.{bit_not, bit_ext, not-not, not-lt, xor-not, not_xor_left, or-not}
 use Rattle.laws.proofs.Bounds.{tab_below}
 use Rattle.laws.proofs.Lists.{get_or-tab, tab_ext, is_tab}
-use Rattle.keccak.specs.Lanes.{rot, parity, parities, effect, effects, rotation, source, moved, row, laid, constants, step, rounds, keccak_p}
+use Rattle.laws.proofs.Tests.{all-at}
+use Rattle.keccak.specs.Lanes.{rot, parity, parities, effect, effects, rotation, source, moved, row, laid, laid_by, constants, step, rounds, keccak_p}
 use Rattle.keccak.specs.Complement.{flip, differ, over, flips, flipped, complemented, over_parity, over_effect, kept_row}
-use Rattle.keccak.proofs.Assembly.{laid_by, whole, assembled}
+use Rattle.keccak.proofs.Assembly.{whole, assembled}
+use Rattle.keccak.proofs.Constants.{fours, four_constant}
 use Rattle.keccak.proofs.Places.{rounds_more}
 use Rattle.keccak.proofs.Rotations.{bit-rot, rot-lt}
 use Rattle.keccak.proofs.Strings.{below_rounds}
@@ -148,6 +150,9 @@ module _ (s d : List ℕ) (hs : (i : ℕ) → get_or s i 0 < 2 ^ 64) (hd : (i : 
       let e3 = ap₂ bit_xor e2 (g (x + 15) (omega arith)) ∙ flip-xor p2 (over (x + 15)) v2 _ l2 (hs (x + 15)) in
       ap₂ bit_xor e3 (g (x + 20) (omega arith)) ∙ flip-xor p3 (over (x + 20)) v3 _ l3 (hs (x + 20))
 
+pub made_kept : (s d : List ℕ) (y : ℕ) → Below (2 ^ 64) 25 s → Below (2 ^ 64) 5 d → y < 5 → tab 5 (made s d y) ≡ kept_row s d y
+made_kept s d y lanes effects h = sym (row_made s d lanes.each effects.each y h)
+
 parity-lt : (s : List ℕ) → ((i : ℕ) → get_or s i 0 < 2 ^ 64) → (x : ℕ) → parity s x < 2 ^ 64
 unfolding parity
 parity-lt s h x =
@@ -187,23 +192,31 @@ module _ (s : List ℕ) (h : (i : ℕ) → get_or s i 0 < 2 ^ 64) where
       rows_flip (effects (parities s)) c ∙ ap (λ (d : List ℕ). complemented (laid_by (row (complemented s) d) c)) (sym effects-flip)
       ∙ ap complemented (whole (complemented s) c)
 
--- and known by other names: what each copy of a round has made
+-- and known by other names
 pub kept_assembled : (a k d p q r s t v : List ℕ) (c : ℕ) → v ≡ laid p q r s t c
     → p ≡ kept_row a d 0 → q ≡ kept_row a d 1 → r ≡ kept_row a d 2 → s ≡ kept_row a d 3 → t ≡ kept_row a d 4
     → d ≡ effects k → k ≡ parities a → Below (2 ^ 64) 25 a → v ≡ complemented (step (complemented a) c)
 kept_assembled a k d p q r s t v c ev ep eq er es et ed ek g =
     assembled (kept_row a) a k d p q r s t v c ek ed ep eq er es et ev ∙ kept_round a g.each c
 
--- the six lanes, one after the other
-abbrev six : List ℕ → List ℕ
-six s = flipped (flipped (flipped (flipped (flipped (flipped s 1) 2) 8) 12) 17) 20
+-- the lanes that `over` names, and the first n of them complemented
+unfoldable pub places : List ℕ
+places = 1 ∷ 2 ∷ 8 ∷ 12 ∷ 17 ∷ 20 ∷ []
 
-of_lanes : (s : List ℕ) → six (tab 25 (λ i. get_or s i 0)) ≡ complemented s
-unfolding complemented flips tab tab_from
+abbrev pub first_flipped : ℕ → List ℕ → List ℕ
+first_flipped zero s = s
+first_flipped (suc n) s = flipped (first_flipped n s) (get_or places n 0)
+
+pub place-lt : (n : ℕ) → n < 6 → get_or places n 0 < 25
+unfolding places
+place-lt n h = ltb→lt (get_or places n 0) 25 (all-at (λ k. ltb (get_or places k 0) 25) 6 tt n h)
+
+of_lanes : (s : List ℕ) → first_flipped 6 (tab 25 (λ i. get_or s i 0)) ≡ complemented s
+unfolding complemented flips places tab tab_from
 of_lanes s = refl
 
-pub six_flipped : (s : List ℕ) → length s ≡ 25 → six s ≡ complemented s
-six_flipped s h = ap six (is_tab 25 (λ i. get_or s i 0) 0 s h (λ i l. refl)) ∙ of_lanes s
+pub all_flipped : (s : List ℕ) → length s ≡ 25 → first_flipped 6 s ≡ complemented s
+all_flipped s h = ap (first_flipped 6) (is_tab 25 (λ i. get_or s i 0) 0 s h (λ i l. refl)) ∙ of_lanes s
 
 -- complementing twice gives back 25 lanes
 pub twice : (s : List ℕ) → Below (2 ^ 64) 25 s → complemented (complemented s) ≡ s
@@ -220,26 +233,33 @@ pub below_complemented : (s : List ℕ) → Below (2 ^ 64) 25 s → Below (2 ^ 6
 unfolding complemented flips
 below_complemented s g = tab_below (2 ^ 64) 25 _ (pow_pos 64) (λ i h. flip-lt (over i) (get_or s i 0) (g.each i))
 
--- one round more of a state that is kept complemented, with its constant from the table
-module _ (table a : List ℕ) (k : table ≡ constants) (g : Below (2 ^ 64) 25 a) where
-  kept_more : (s t : List ℕ) (i : ℕ) → i < 24 → s ≡ complemented (rounds i a) → t ≡ complemented (step (complemented s) (get_or table i 0))
-      → t ≡ complemented (rounds (i + 1) a)
-  kept_more s t i h e f =
+-- one round more of a state that is kept complemented
+module _ (a : List ℕ) (g : Below (2 ^ 64) 25 a) where
+  kept_more : (s t : List ℕ) (i c : ℕ) → i < 24 → s ≡ complemented (rounds i a) → c ≡ get_or constants i 0
+      → t ≡ laid_by (kept_row s (effects (parities s))) c → t ≡ complemented (rounds (i + 1) a)
+  kept_more s t i c h e q f =
       let l : i ≤ 24 = omega arith in
-      let back : complemented s ≡ rounds i a = ap complemented e ∙ twice (rounds i a) (below_rounds i a l g) in
-      f ∙ ap complemented (ap (λ (x : List ℕ). step x (get_or table i 0)) back ∙ rounds_more table a (rounds i a) _ i h k refl refl)
+      let b : Below (2 ^ 64) 25 (rounds i a) = below_rounds i a l g in
+      let back : complemented s ≡ rounds i a = ap complemented e ∙ twice (rounds i a) b in
+      let fits : Below (2 ^ 64) 25 s = rw e (below_complemented (rounds i a) b) in
+      kept_assembled s _ _ _ _ _ _ _ t c f refl refl refl refl refl refl refl fits
+      ∙ ap complemented ((λ j. step (back j) (q j)) ∙ rounds_more constants a (rounds i a) _ i h refl refl refl)
 
   -- and four
-  pub kept_four : (s t u v w : List ℕ) (i : ℕ) → i + 3 < 24 → s ≡ complemented (rounds i a)
-      → t ≡ complemented (step (complemented s) (get_or table i 0)) → u ≡ complemented (step (complemented t) (get_or table (i + 1) 0))
-      → v ≡ complemented (step (complemented u) (get_or table (i + 2) 0)) → w ≡ complemented (step (complemented v) (get_or table (i + 3) 0))
-      → w ≡ complemented (rounds (i + 4) a)
-  kept_four s t u v w i h e et eu ev ew =
+  pub kept_four : (table : List (List ℕ)) (s t u v w : List ℕ) (i : ℕ) → table ≡ fours → i < 6 → s ≡ complemented (rounds (4 * i) a)
+      → t ≡ laid_by (kept_row s (effects (parities s))) (get_or (get_or table i []) 0 0)
+      → u ≡ laid_by (kept_row t (effects (parities t))) (get_or (get_or table i []) 1 0)
+      → v ≡ laid_by (kept_row u (effects (parities u))) (get_or (get_or table i []) 2 0)
+      → w ≡ laid_by (kept_row v (effects (parities v))) (get_or (get_or table i []) 3 0) → w ≡ complemented (rounds (4 * (i + 1)) a)
+  kept_four table s t u v w i q h e et eu ev ew =
       let at : (m n : ℕ) → m ≡ n → complemented (rounds m a) ≡ complemented (rounds n a) = λ m n q. ap (λ (k : ℕ). complemented (rounds k a)) q in
-      let ft = kept_more s t i (omega arith) e et in
-      let fu = kept_more t u (i + 1) (omega arith) ft eu ∙ at (i + 1 + 1) (i + 2) (omega arith) in
-      let fv = kept_more u v (i + 2) (omega arith) fu ev ∙ at (i + 2 + 1) (i + 3) (omega arith) in
-      kept_more v w (i + 3) (omega arith) fv ew ∙ at (i + 3 + 1) (i + 4) (omega arith)
+      let c : (j : ℕ) → j < 4 → get_or (get_or table i []) j 0 ≡ get_or constants (4 * i + j) 0 =
+      λ j l. ap (λ (x : List (List ℕ)). get_or (get_or x i []) j 0) q ∙ four_constant i j h l in
+      let ft = kept_more s t (4 * i + 0) _ (omega arith) (e ∙ at (4 * i) (4 * i + 0) (omega arith)) (c 0 (omega arith)) et in
+      let fu = kept_more t u (4 * i + 1) _ (omega arith) (ft ∙ at (4 * i + 0 + 1) (4 * i + 1) (omega arith)) (c 1 (omega arith)) eu in
+      let fv = kept_more u v (4 * i + 2) _ (omega arith) (fu ∙ at (4 * i + 1 + 1) (4 * i + 2) (omega arith)) (c 2 (omega arith)) ev in
+      let fw = kept_more v w (4 * i + 3) _ (omega arith) (fv ∙ at (4 * i + 2 + 1) (4 * i + 3) (omega arith)) (c 3 (omega arith)) ew in
+      fw ∙ at (4 * i + 3 + 1) (4 * (i + 1)) (omega arith)
 
 pub kept_none : (s : List ℕ) → Below (2 ^ 64) 25 s → s ≡ complemented (rounds 0 (complemented s))
 unfolding rounds

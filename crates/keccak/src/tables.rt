@@ -1,3 +1,8 @@
+// 3.2.2, table 2, modulo 64: how far lane x + 5y is turned. proofs/Computed has FIPS 202's rule for them.
+pub const OFFSETS: [u32; 25] = [
+    0, 1, 62, 28, 27, 36, 44, 6, 55, 20, 3, 10, 43, 25, 39, 41, 45, 15, 21, 8, 18, 2, 61, 56, 14,
+];
+
 // 3.2.5: what each round adds into lane (0, 0). proofs/Constants has FIPS 202's rule for them.
 pub const ROUND_CONSTANTS: [u64; 24] = [
     0x0000000000000001,
@@ -25,3 +30,6 @@ pub const ROUND_CONSTANTS: [u64; 24] = [
     0x0000000080000001,
     0x8000000080008008,
 ];
+
+// The lanes of one state that its rounds keep complemented.
+pub const COMPLEMENTED: [usize; 6] = [1, 2, 8, 12, 17, 20];

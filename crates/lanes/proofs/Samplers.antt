@@ -2,14 +2,17 @@
 use mathlib.Core.Path.{◌≡◌, refl, sym, ap, ◌∙◌}
 use mathlib.Core.List.{List, [], ◌∷◌}
 use Prim.Native.Nat.{ℕ, zero, suc, ◌+◌, ◌*◌, ◌-◌, ◌%◌, ◌^◌, ◌≤◌, ◌<◌}
-use native.Mathlib.Nat.{mod-lt, pow-suc, add-zero, add-suc, zero-add}
+use native.Mathlib.Nat.{mod-lt, mod-eq_of_lt, add-zero, zero-add}
 use native.Mathlib.Omega.{arith}
-use lib.Dec.{lit<}
-use lib.ListN.{get_or}
+use lib.Dec.{lit<, lit≤}
+use lib.ListN.{get_or, take, drop}
+use lib.Seq.{get_or-take, get_or-drop}
+use Rattle.laws.specs.Lists.{part}
 use Rattle.laws.proofs.Bits.{bit-lt}
 use Rattle.laws.proofs.Bounds.{tab_below}
 use Rattle.laws.proofs.ModularSolver.{mod_ring, at, lit, ◌⊞◌, ◌⊠◌}
 use Rattle.field.specs.Field.{P, Coefficients}
+use Rattle.lanes.specs.FourLanes.{placed}
 use Rattle.lanes.specs.Samplers.{big_endian, uniform, uniforms, ones, counts, short, shorts}
 
 pub uniform_below : (l : List ℕ) (s : ℕ) → uniform l s < P
@@ -34,40 +37,49 @@ unfolding ones
 ones_small n =
     omega (arith, bit-lt n 0, bit-lt n 1, bit-lt n 2, bit-lt n 3, bit-lt n 4, bit-lt n 5, bit-lt n 6, bit-lt n 7)
 
--- ---- bytes read from the highest on
--- k bytes behind n
-pub big_endian_more : (l : List ℕ) (s n k : ℕ) → big_endian l s (n + k) ≡ big_endian l s n * 256 ^ k + big_endian l (s + n) k
+-- ---- what is drawn from a part is what the list has from there on
+part_at : (l : List ℕ) (s n i : ℕ) → i < n → get_or (part s n l) i 0 ≡ get_or l (s + i) 0
+part_at l s n i h = get_or-take n (drop s l) i 0 h ∙ get_or-drop s l i 0
+
+big_endian_part : (l : List ℕ) (s m n : ℕ) → n ≤ m → big_endian (part s m l) 0 n ≡ big_endian l s n
 unfolding big_endian
-big_endian_more l s n zero = ap (λ (m : ℕ). big_endian l s m) (add-zero n) ∙ plain (big_endian l s n)
-  where
-    plain : (b : ℕ) → b ≡ b * 256 ^ 0 + 0
-    plain b = omega arith
-big_endian_more l s n (suc k) =
-    ap (λ (m : ℕ). big_endian l s m) (add-suc n k) ∙ (λ i. big_endian_more l s n k i * 256 + get_or l (place i) 0)
-    ∙ plain (big_endian l s n) (256 ^ k) (big_endian l (s + n) k) (get_or l (s + n + k) 0)
-    ∙ ap (λ (p : ℕ). big_endian l s n * p + (big_endian l (s + n) k * 256 + get_or l (s + n + k) 0)) (sym (pow-suc 256 k))
-  where
-    place : s + (n + k) ≡ s + n + k
-    place = omega arith
+big_endian_part l s m zero h = refl
+big_endian_part l s m (suc n) h = λ i.
+    big_endian_part l s m n (omega arith) i * 256 + (ap (λ (k : ℕ). get_or (part s m l) k 0) (zero-add n) ∙ part_at l s m n (omega arith)) i
 
-    plain : (b p c x : ℕ) → (b * p + c) * 256 + x ≡ b * (p * 256) + (c * 256 + x)
-    plain b p c x = omega arith
+pub uniform_part : (l : List ℕ) (s m : ℕ) → 9 ≤ m → uniform (part s m l) 0 ≡ uniform l s
+unfolding uniform
+uniform_part l s m h = ap (λ (n : ℕ). n % P) (big_endian_part l s m 9 h)
 
--- the first byte at 2^64, then two times four
-pub nine_bytes : (l : List ℕ) (s hi a b : ℕ) → hi ≡ get_or l s 0 → a ≡ big_endian l (s + 1) 4 → b ≡ big_endian l (s + 5) 4
-    → hi * 2 ^ 64 + (a * 2 ^ 32 + b) ≡ big_endian l s 9
-nine_bytes l s hi a b e f g =
-    (λ i. (e ∙ one) i * 2 ^ 64 + (f i * 2 ^ 32 + (g ∙ ap (λ (n : ℕ). big_endian l n 4) place) i))
-    ∙ ap (λ (n : ℕ). big_endian l s 1 * 2 ^ 64 + n) (sym (big_endian_more l (s + 1) 4 4)) ∙ sym (big_endian_more l s 1 8)
+-- the counts of four bytes are those of four equal ones
+pub counts_same : (count : ℕ → ℕ) (l m : List ℕ) (s t : ℕ) → ((i : ℕ) → i < 4 → get_or l (s + i) 0 ≡ get_or m (t + i) 0)
+    → counts count l s ≡ counts count m t
+unfolding counts
+counts_same count l m s t e = λ i. placed (count (e 3 (lit< tt) i)) (count (e 2 (lit< tt) i)) (count (e 1 (lit< tt) i)) (count (first i))
   where
-    place : s + 5 ≡ s + 1 + 4
-    place = omega arith
+    first : get_or l s 0 ≡ get_or m t 0
+    first = ap (λ (n : ℕ). get_or l n 0) (sym (add-zero s)) ∙ e 0 (lit< tt) ∙ ap (λ (n : ℕ). get_or m n 0) (add-zero t)
 
-    one : get_or l s 0 ≡ big_endian l s 1
-    one = first ∙ sym (unfold big_endian in refl)
-      where
-        first : get_or l s 0 ≡ 0 * 256 + get_or l (s + 0) 0
-        first = ap (λ (n : ℕ). get_or l n 0) (sym (add-zero s)) ∙ sym (zero-add (get_or l (s + 0) 0))
+pub short_part : (count : ℕ → ℕ) (l : List ℕ) (s m : ℕ) → 8 ≤ m → short count (part s m l) 0 ≡ short count l s
+unfolding short
+short_part count l s m h = λ i. (half 0 s (lit≤ tt) (omega arith) i + (P - half 4 (s + 4) (lit≤ tt) refl i % P)) % P
+  where
+    half : (t u : ℕ) → t ≤ 4 → s + t ≡ u → counts count (part s m l) t ≡ counts count l u
+    half t u q g = counts_same count (part s m l) l t u (λ i r.
+        part_at l s m (t + i) (omega arith) ∙ (let e : s + (t + i) ≡ u + i = omega arith in ap (λ (n : ℕ). get_or l n 0) e))
+
+-- a number and another from the two halves of eight bytes
+pub short_halves : (count : ℕ → ℕ) (l front back : List ℕ) (x y : ℕ) → front ≡ take 4 l → back ≡ drop 4 l
+    → x ≡ counts count front 0 → y ≡ counts count back 0 → y < P → (x + (P - y)) % P ≡ short count l 0
+unfolding short
+short_halves count l front back x y ef eb ex ey h = λ i. ((ex ∙ low) i + (P - (sym (mod-eq_of_lt h) ∙ ap (λ (n : ℕ). n % P) (ey ∙ high)) i)) % P
+  where
+    low : counts count front 0 ≡ counts count l 0
+    low = counts_same count front l 0 0 (λ i g. ap (λ (m : List ℕ). get_or m (0 + i) 0) ef ∙ get_or-take 4 l (0 + i) 0 (omega arith))
+
+    high : counts count back 0 ≡ counts count l 4
+    high = counts_same count back l 0 4 (λ i g.
+        ap (λ (m : List ℕ). get_or m (0 + i) 0) eb ∙ get_or-drop 4 l (0 + i) 0 ∙ (let e : 4 + (0 + i) ≡ 4 + i = omega arith in ap (λ (n : ℕ). get_or l n 0) e))
 
 -- 2^64 is 2^32 - 1 modulo p
 pub folded : (hi lo : ℕ) → (lo + hi * 0xffff_ffff) % P ≡ (hi * 2 ^ 64 + lo) % P

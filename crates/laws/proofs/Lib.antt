@@ -22,6 +22,5 @@ pub mod Halving
 pub mod Interpolation
 pub mod Convolution
 pub mod Bounds
-pub mod Assigned
 pub mod Integers
 pub mod Bits

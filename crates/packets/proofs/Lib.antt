@@ -3,3 +3,4 @@ pub mod Opening
 pub mod Products
 pub mod Delivery
 pub mod Canonical
+pub mod Keys

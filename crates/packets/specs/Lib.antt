@@ -3,3 +3,4 @@ pub mod Parameters
 pub mod Packets
 pub mod Layout
 pub mod Opening
+pub mod Keys

@@ -1,27 +1,23 @@
 -- How a call is proved by the judgement: what it may count on once nothing is wrong (`as_asked`), its two ends, and that two outcomes which a
 -- contract allows are the same (`call_one`), for any answer type.
 use mathlib.Core.Bool.{true}
-use mathlib.Core.Path.{◌≡◌, refl, sym, ap, ap₂, ◌∙◌}
+use mathlib.Core.Path.{◌≡◌, refl, sym, ap, ◌∙◌}
 use mathlib.Core.List.{List, [], ◌∷◌}
 use Prim.Native.Nat.{ℕ, zero, suc, ◌-◌, ◌/◌}
 use lib.Dec.{eqb, lit<}
 use lib.ListN.{length, get_or, drop, length-drop}
 use borrow.Author.Tests.{eqb-true, leb-true, eq-eqb, le-leb}
+use Rattle.std.specs.Prelude.{Result, Ok, Err, ⊤}
 use Rattle.laws.specs.Choices.{pick}
 use Rattle.codec.proofs.Layouts.{length-words}
 use Rattle.refusals.specs.Arguments.{Asked, numbers, packed, room, at_most, value, anything, fits, coefficients, AsAsked, Each}
 use Rattle.refusals.specs.Judgement.{Told, No, gives, refuses, fine, then, judged}
 use Rattle.refusals.specs.Exactly.{the, Canonical, Clean}
-use Rattle.refusals.specs.Answers.{paper, said, told, told_two, Lent, into, olds, left, Call}
+use Rattle.refusals.specs.Answers.{paper, said, told, told_two, Judges, Lent, olds, left, Call}
+use Rattle.refusals.proofs.Steps.{stays, next}
 use Rattle.refusals.proofs.Exactly.{exactly_0}
 use Rattle.refusals.specs.declared.Refusal.{Refusal}
 use Rattle.refusals.specs.declared.Refusal.TheVariants.{Length, Coefficient, Differs, InverseOfZero, NoJob}
-use Rattle.refusals.specs.declared.Answer.{Answer}
-use Rattle.refusals.specs.declared.Answer.TheVariants.{Done, Refused}
-use Rattle.refusals.specs.declared.Given.{Given}
-use Rattle.refusals.specs.declared.Given.TheVariants.{Value, NotGiven}
-use Rattle.refusals.specs.declared.GivenTwo.{GivenTwo}
-use Rattle.refusals.specs.declared.GivenTwo.TheVariants.{Values, NeitherGiven}
 
 -- ---- what a call may count on
 as_one : (a : Asked) → fits a ≡ true → Canonical (coefficients a) → AsAsked a
@@ -81,37 +77,29 @@ each_clean args h = record { all_fit = fit args h; all_canonical = canonical arg
     canonical (a ∷ args) h zero = canonical_as a h.0
     canonical (a ∷ args) h (suc k) = canonical args h.1 k
 
--- where the judging function answers that it is done, every argument is as asked
-pub as_asked : (v : Answer) (args : List Asked) → v ≡ Done → said v ≡ judged args → Each args
-as_asked v args e f = as_each args ((exactly_0 args).0 (sym f ∙ ap said e))
+-- where nothing is told against them, every argument is as asked
+pub as_asked : (args : List Asked) → fine ≡ judged args → Each args
+as_asked args e = as_each args ((exactly_0 args).0 (sym e))
+
+-- so a function that answers as they are judged judges them
+pub judges : (args : List Asked) (r : Result ⊤ Refusal) → said r ≡ judged args → Judges args r
+judges args (Ok done) e = record { answered = e; as_asked = as_asked args e }
+judges args (Err r) e = record { answered = e; as_asked = tt }
+
+-- by which a chain of steps with `?` between them is judged
+pub ruleset steps = (judges, stays, next)
 
 -- ---- the two ends of a call
 pub left_no : (r : No) (lent : List Lent) → left (refuses r) lent ≡ olds lent
 left_no r [] = refl
 left_no r (b ∷ lent) = ap (λ (l : List (List ℕ)). b.old ∷ l) (left_no r lent)
 
-pub refused : (v : Answer) (r : Refusal) (args : List Asked) (given answer : Told) (lent : List Lent) (new : List (List ℕ))
-    → v ≡ Refused r → said v ≡ judged args → answer ≡ refuses (paper r) → new ≡ olds lent → Call args given answer lent new
-refused v r args given answer lent new e f a b =
-    let j : judged args ≡ refuses (paper r) = sym f ∙ ap said e in
-    record {
-      answered = a ∙ ap (λ (t : Told). then t given) (sym j);
-      buffers = b ∙ sym (ap (λ (t : Told). left (then t given) lent) j ∙ left_no (paper r) lent);
-    }
-
--- the same where the judging function's own answer is handed back
-pub handed_back : (v : Answer) (r : Refusal) (args : List Asked) (given answer : Told) (lent : List Lent) (new : List (List ℕ))
-    → v ≡ Refused r → said v ≡ judged args → answer ≡ said v → new ≡ olds lent → Call args given answer lent new
-handed_back v r args given answer lent new e f a b = refused v r args given answer lent new e f (a ∙ ap said e) b
-
-pub done : (v : Answer) (args : List Asked) (given answer : Told) (lent : List Lent) (new : List (List ℕ))
-    → v ≡ Done → said v ≡ judged args → answer ≡ given → new ≡ left given lent → Call args given answer lent new
-done v args given answer lent new e f a b =
-    let j : judged args ≡ fine = sym f ∙ ap said e in
-    record {
-      answered = a ∙ ap (λ (t : Told). then t given) (sym j);
-      buffers = b ∙ ap (λ (t : Told). left (then t given) lent) (sym j);
-    }
+pub done : (args : List Asked) (given answer : Told) (lent : List Lent) (new : List (List ℕ))
+    → fine ≡ judged args → answer ≡ given → new ≡ left given lent → Call args given answer lent new
+done args given answer lent new e a b = record {
+  answered = a ∙ ap (λ (t : Told). then t given) e;
+  buffers = b ∙ ap (λ (t : Told). left (then t given) lent) e;
+}
 
 -- ---- what is told determines the answer, of any type that can be read back
 pub record Answers (A : Type 0) : Type 0 where
@@ -140,70 +128,46 @@ refusal_back InverseOfZero = refl
 refusal_back NoJob = refl
 
 -- ---- the three answer types
-answer_of : Told → Answer
-answer_of (gives xs) = Done
-answer_of (refuses r) = Refused (refusal_of r)
+answer_of : Told → Result ⊤ Refusal
+answer_of (gives xs) = Ok tt
+answer_of (refuses r) = Err (refusal_of r)
 
-answer_back : (v : Answer) → answer_of (said v) ≡ v
+answer_back : (v : Result ⊤ Refusal) → answer_of (said v) ≡ v
 unfolding answer_of
-answer_back Done = refl
-answer_back (Refused r) = ap Refused (refusal_back r)
+answer_back (Ok done) = refl
+answer_back (Err r) = ap Err (refusal_back r)
 
-pub said-one : (v w : Answer) → said v ≡ said w → v ≡ w
+pub said-one : (v w : Result ⊤ Refusal) → said v ≡ said w → v ≡ w
 said-one v w e = sym (answer_back v) ∙ ap answer_of e ∙ answer_back w
 
-given_of : Told → Given
-given_of (gives xs) = Value (get_or xs 0 0)
-given_of (refuses r) = NotGiven (refusal_of r)
+given_of : Told → Result ℕ Refusal
+given_of (gives xs) = Ok (get_or xs 0 0)
+given_of (refuses r) = Err (refusal_of r)
 
-given_back : (v : Given) → given_of (told v) ≡ v
+given_back : (v : Result ℕ Refusal) → given_of (told v) ≡ v
 unfolding given_of
-given_back (Value x) = refl
-given_back (NotGiven r) = ap NotGiven (refusal_back r)
+given_back (Ok x) = refl
+given_back (Err r) = ap Err (refusal_back r)
 
-given_two_of : Told → GivenTwo
-given_two_of (gives xs) = Values (get_or xs 0 0) (get_or xs 1 0)
-given_two_of (refuses r) = NeitherGiven (refusal_of r)
+given_two_of : Told → Result (ℕ × ℕ) Refusal
+given_two_of (gives xs) = Ok (get_or xs 0 0, get_or xs 1 0)
+given_two_of (refuses r) = Err (refusal_of r)
 
-given_two_back : (v : GivenTwo) → given_two_of (told_two v) ≡ v
+given_two_back : (v : Result (ℕ × ℕ) Refusal) → given_two_of (told_two v) ≡ v
 unfolding given_two_of
-given_two_back (Values x y) = refl
-given_two_back (NeitherGiven r) = ap NeitherGiven (refusal_back r)
+given_two_back (Ok xs) = refl
+given_two_back (Err r) = ap Err (refusal_back r)
 
 -- ---- so what a contract allows is one answer and one content of each buffer, whichever shape it has
-pub fills_one : (args : List Asked) (v w : Answer) (given : Told) (lent : List Lent) (new new' : List (List ℕ))
+pub fills_one : (args : List Asked) (v w : Result ⊤ Refusal) (given : Told) (lent : List Lent) (new new' : List (List ℕ))
     → Call args given (said v) lent new → Call args given (said w) lent new' → (v ≡ w) × (new ≡ new')
 fills_one args v w given lent new new' = call_one (record { tell = said; back = answer_of; back_tell = answer_back }) v w args given lent new new'
 
-pub gives_one : (args : List Asked) (v w : Given) (given : Told) (lent : List Lent) (new new' : List (List ℕ))
+pub gives_one : (args : List Asked) (v w : Result ℕ Refusal) (given : Told) (lent : List Lent) (new new' : List (List ℕ))
     → Call args given (told v) lent new → Call args given (told w) lent new' → (v ≡ w) × (new ≡ new')
 gives_one args v w given lent new new' = call_one (record { tell = told; back = given_of; back_tell = given_back }) v w args given lent new new'
 
-pub gives_two_one : (args : List Asked) (v w : GivenTwo) (given : Told) (lent : List Lent) (new new' : List (List ℕ))
+pub gives_two_one : (args : List Asked) (v w : Result (ℕ × ℕ) Refusal) (given : Told) (lent : List Lent) (new new' : List (List ℕ))
     → Call args given (told_two v) lent new → Call args given (told_two w) lent new' → (v ≡ w) × (new ≡ new')
 gives_two_one args v w given lent new new' =
     call_one (record { tell = told_two; back = given_two_of; back_tell = given_two_back }) v w args given lent new new'
-
--- ---- the good end of each shape
-pub gives_done : (v : Answer) (args : List Asked) (x y : ℕ) → v ≡ Done → said v ≡ judged args → x ≡ y
-    → Call args (gives (y ∷ [])) (gives (x ∷ [])) [] []
-gives_done v args x y e f g = done v args _ _ _ _ e f (ap (λ (z : ℕ). gives (z ∷ [])) g) refl
-
-pub gives_two_done : (v : Answer) (args : List Asked) (x y x' y' : ℕ) → v ≡ Done → said v ≡ judged args → x ≡ x' → y ≡ y'
-    → Call args (gives (x' ∷ y' ∷ [])) (gives (x ∷ y ∷ [])) [] []
-gives_two_done v args x y x' y' e f g h = done v args _ _ _ _ e f (ap₂ (λ (s t : ℕ). gives (s ∷ t ∷ [])) g h) refl
-
-pub fills_done : (v : Answer) (args : List Asked) (old new result : List ℕ) → v ≡ Done → said v ≡ judged args → new ≡ result
-    → Call args fine fine (into old result ∷ []) (new ∷ [])
-fills_done v args old new result e f g = done v args _ _ _ _ e f refl (ap (λ (l : List ℕ). l ∷ []) g)
-
-pub fills_two_done : (v : Answer) (args : List Asked) (old new result old' new' result' : List ℕ) → v ≡ Done → said v ≡ judged args
-    → new ≡ result → new' ≡ result'
-    → Call args fine fine (into old result ∷ into old' result' ∷ []) (new ∷ new' ∷ [])
-fills_two_done v args old new result old' new' result' e f g h = done v args _ _ _ _ e f refl (ap₂ (λ (s t : List ℕ). s ∷ t ∷ []) g h)
-
-pub gives_and_fills_done : (v : Answer) (args : List Asked) (x y : ℕ) (old new result : List ℕ) → v ≡ Done → said v ≡ judged args
-    → x ≡ y → new ≡ result
-    → Call args (gives (y ∷ [])) (gives (x ∷ [])) (into old result ∷ []) (new ∷ [])
-gives_and_fills_done v args x y old new result e f g h =
-    done v args _ _ _ _ e f (ap (λ (z : ℕ). gives (z ∷ [])) g) (ap (λ (l : List ℕ). l ∷ []) h)

@@ -11,6 +11,9 @@ use lib.Dec.{ltb, lit<}
 use lib.ListN.{length, get_or, drop, drop_of_length-le, get_or-eq_default}
 use lib.Seq.{drop-cons}
 use borrow.Author.Tests.{ltb-true, ltb-false, lt-ltb, le-ltb}
+use Rattle.std.specs.Prelude.{nat_le, nat_lt, position, cond, Some, None}
+use Rattle.std.proofs.Common.{tests}
+use Rattle.std.specs.List.{position_or_len}
 use Rattle.laws.proofs.Orders.{le_or_lt}
 use Rattle.field.specs.Field.{P}
 use Rattle.laws.specs.Choices.{pick}
@@ -85,3 +88,18 @@ lead-here s i h l = rw (drop-cons s i 0) (simp (le-ltb (get_or s i 0) P l))
 pub lead_end : (s : List ℕ) (i : ℕ) → length s ≤ i → lead (drop i s) ≡ 0
 unfolding lead
 lead_end s i h = rw (drop_of_length-le s h)
+
+-- ---- the library's word for where it stands
+position_or_len_lead : (s : List ℕ) → position_or_len (λ x. nat_le P x) s ≡ lead s
+unfolding lead
+position_or_len_lead [] = refl
+position_or_len_lead (x ∷ xs) = grind (arith, tests, position_or_len_lead xs)
+
+pub position_lead : (s : List ℕ) → position (λ x. nat_le P x) s ≡ cond (nat_lt (lead s) (length s)) (Some (lead s)) None
+position_lead s = rw (position_or_len_lead s) refl
+
+pub position-here : (s : List ℕ) (i : ℕ) → lead s ≡ i → i < length s → Some i ≡ position (λ x. nat_le P x) s
+position-here s i e h = rw (position_lead s, e) (simp (lt-ltb i (length s) h))
+
+pub position-none : (s : List ℕ) → length s ≤ lead s → None ≡ position (λ x. nat_le P x) s
+position-none s h = rw (position_lead s) (simp (le-ltb (lead s) (length s) h))

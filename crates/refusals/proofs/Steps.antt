@@ -1,35 +1,37 @@
 -- One step of judging, after a refusal and after none.
 use mathlib.Core.Bool.{Bool, true, false}
-use mathlib.Core.Path.{◌≡◌, refl, ◌∙◌}
+use mathlib.Core.Path.{◌≡◌, refl, sym, sym, ◌∙◌}
 use mathlib.Core.List.{List, [], ◌∷◌}
-use Prim.Native.Nat.{ℕ, ◌-◌, ◌/◌, ◌≤◌, ◌<◌}
+use Prim.Native.Nat.{ℕ, ◌-◌, ◌≤◌, ◌<◌}
 use native.Mathlib.Omega.{arith}
 use lib.Dec.{eqb}
 use lib.ListN.{length, take, drop, length-drop, drop_of_length-le}
 use lib.Seq.{take_all}
-use borrow.Author.Tests.{lt-ltb, le-ltb, eq-eqb}
+use borrow.Author.Tests.{eq-eqb}
+use Rattle.std.specs.Prelude.{Option, Some, None, Result, Ok, Err, ⊤, nat_le, nat_lt, position, cond}
 use Rattle.laws.specs.Choices.{pick}
 use Rattle.laws.specs.Lists.{tab, tab_from}
+use Rattle.field.specs.Field.{P}
 use Rattle.codec.specs.Layout.{words}
-use Rattle.codec.proofs.Layouts.{length-words}
-use Rattle.refusals.specs.Judgement.{No, Told, refuses, sign, fine, Fault, no_fault, fault, as_fault, lead, found, looked, blame}
-use Rattle.refusals.specs.Answers.{said}
-use Rattle.refusals.specs.declared.Answer.{Answer}
-use Rattle.refusals.specs.declared.Answer.TheVariants.{Done, Refused}
+use Rattle.refusals.specs.Judgement.{No, Told, refuses, sign, fine, then, then, Fault, no_fault, fault, as_fault, lead, found, placed, looked, blame}
+use Rattle.refusals.specs.Answers.{said, paper}
 use Rattle.refusals.specs.declared.Refusal.{Refusal}
+use Rattle.refusals.proofs.Leads.{position_lead}
 
--- a refusal stays
-no_stays : (k : ℕ) (f : Fault) (r : No) → refuses r ≡ blame k f (refuses r)
+-- a refusal stays,
+pub stays : (k : ℕ) (f : Fault) (r : No) (t : Told) → refuses r ≡ t → refuses r ≡ blame k f t
 unfolding blame
-no_stays k no_fault r = refl
-no_stays k (fault n i) r = refl
+stays k no_fault r t e = e
+stays k (fault n i) r t e = rw (← e) refl
 
-pub stays : (v : Answer) {r : Refusal} (k : ℕ) (f : Fault) → v ≡ Refused r → said v ≡ blame k f (said v)
-stays v k f e = rw e (no_stays k f _)
+-- and after none it is the next step that tells
+pub next : (k : ℕ) (f : Fault) (t u : Told) → fine ≡ t → u ≡ blame k f fine → u ≡ blame k f t
+next k f t u e h = rw (← e) h
 
--- after none it is what is found that is told
-pub tells : (v : Answer) (k : ℕ) (f : Fault) (t : Told) → v ≡ Done → t ≡ blame k f fine → t ≡ blame k f (said v)
-tells v k f t e h = rw e h
+-- so what is told of an answer and then by a step is what `?` between them tells
+pub so_far : (v : Result ⊤ Refusal) (k : ℕ) (f : Fault) → blame k f (said v) ≡ then (said v) (blame k f fine)
+so_far (Ok done) k f = refl
+so_far (Err r) k f = sym (stays k f (paper r) _ refl)
 
 -- ---- a test
 pub passes : (b : Bool) (k : ℕ) (f : Fault) → b ≡ true → fine ≡ blame k (pick b no_fault f) fine
@@ -41,13 +43,22 @@ unfolding blame
 fails b r e = rw e
 
 -- ---- the first bad coefficient
-pub finds : (k i m : ℕ) → i < m → refuses (sign 2 k i) ≡ blame k (found i m) fine
-unfolding blame found
-finds k i m h = rw (lt-ltb i m h)
+pub finds : (k i : ℕ) → refuses (sign 2 k i) ≡ blame k (fault 2 i) fine
+unfolding blame
+finds k i = refl
 
-pub finds_none : (k i m : ℕ) → m ≤ i → fine ≡ blame k (found i m) fine
-unfolding blame found
-finds_none k i m h = rw (le-ltb i m h)
+pub finds_none : (k : ℕ) → fine ≡ blame k no_fault fine
+unfolding blame
+finds_none k = refl
+
+-- it stands where the library's word says
+placed_lead : (s : List ℕ) → placed (position (λ x. nat_le P x) s) ≡ found (lead s) (length s)
+unfolding found
+placed_lead s = rw (position_lead s) (go (nat_lt (lead s) (length s)))
+  where
+    go : (b : Bool) → placed (cond b (Some (lead s)) None) ≡ pick b (fault 2 (lead s)) no_fault
+    go true = refl
+    go false = refl
 
 -- ---- all coefficients of an argument
 pub looked_none : (l : List ℕ) → looked false l ≡ no_fault
@@ -61,15 +72,16 @@ looked_some [] = refl
 looked_some (x ∷ xs) = refl
 
 -- where their length is allowed: numbers s,
-pub looked-numbers : (i n : ℕ) (s : List ℕ) → i ≡ lead s → length s ≡ n → found i n ≡ looked (eqb (length s) n) s
-looked-numbers i n s e size = rw (e, eq-eqb (length s) n size, looked_some s, size)
+pub looked-numbers : (o : Option ℕ) (n : ℕ) (s : List ℕ) → o ≡ position (λ x. nat_le P x) s → length s ≡ n
+    → placed o ≡ looked (eqb (length s) n) s
+looked-numbers o n s e size = rw (e, eq-eqb (length s) n size, looked_some s) (placed_lead s)
 
 -- and numbers in the bytes u, a list's from k to its end
-pub looked-bytes : (i n k : ℕ) (s u : List ℕ) → i ≡ lead (words u) → length s ≡ n → u ≡ take (n - k) (drop k s)
-    → found i (length u / 8) ≡ looked (eqb (length s) n) (words (drop k s))
-looked-bytes i n k s u e size g =
+pub looked-bytes : (o : Option ℕ) (n k : ℕ) (s u : List ℕ) → o ≡ position (λ x. nat_le P x) (words u) → length s ≡ n
+    → u ≡ take (n - k) (drop k s) → placed o ≡ looked (eqb (length s) n) (words (drop k s))
+looked-bytes o n k s u e size g =
     let rest : u ≡ drop k s = g ∙ take_all (n - k) (drop k s) (simp length-drop (omega arith)) in
-    rw (e, ← rest, eq-eqb (length s) n size, looked_some (words u), length-words u)
+    rw (e, ← rest, eq-eqb (length s) n size, looked_some (words u)) (placed_lead (words u))
 
 -- what is found, found otherwise
 pub same : (k : ℕ) (f g : Fault) (t : Told) → f ≡ g → blame k f t ≡ blame k g t

@@ -1,6 +1,6 @@
 -- How any call is judged, from its input lists and the lengths of its outputs: docs/SCHEME.md, "When a call says no". A call is described by the
 -- list of its arguments, inputs before outputs.
-use Rattle.std.specs.Prelude.{Bool, List, [], ◌∷◌, ℕ, suc, ltb, length}
+use Rattle.std.specs.Prelude.{Bool, List, [], ◌∷◌, ℕ, suc, ltb, length, Option, Some, None}
 use Rattle.laws.specs.Choices.{pick}
 use Rattle.field.specs.Field.{P}
 use Rattle.refusals.specs.Arguments.{Asked, fits, coefficients}
@@ -49,6 +49,11 @@ lead (x ∷ xs) = pick (ltb x P) (suc (lead xs)) 0
 -- number 2: the first bad one of m coefficients stands at i, or i is m
 unfoldable pub found : ℕ → ℕ → Fault
 found i m = pick (ltb i m) (fault 2 i) no_fault
+
+-- the same of where it stands, if there is one
+abbrev pub placed : Option ℕ → Fault
+placed None = no_fault
+placed (Some i) = fault 2 i
 
 -- the coefficients of an argument whose length is allowed
 unfoldable pub looked : Bool → List ℕ → Fault

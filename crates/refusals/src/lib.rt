@@ -2,17 +2,20 @@
 // sizes. docs/SCHEME.md, "When a call says no"; which call has which arguments is the table specs/Asks.
 #![tactic(auto)]
 
-ghost use Rattle.std.specs.Prelude.{◌≡◌, [], ◌∷◌};
+ghost use Rattle.std.specs.Prelude.{◌≡◌, [], ◌∷◌, nat_le, position};
+ghost use Rattle.field.specs.Field.{P};
 ghost use Rattle.codec.specs.Layout.{words};
 ghost use Rattle.laws.specs.Choices.{pick};
 ghost use Rattle.refusals.specs.Arguments.{value, numbers, packed, room, at_most};
-ghost use Rattle.refusals.specs.Judgement.{sign, no_fault, as_fault, unless, found, lead, canonicals, blame, judged};
-ghost use Rattle.refusals.specs.Answers.{said, paper};
+ghost use Rattle.refusals.specs.Judgement.{sign, no_fault, as_fault, unless, placed, fine, canonicals, blame};
+ghost use Rattle.refusals.specs.Answers.{said, paper, Judges};
 
 use field::BFieldElement;
+use std::error::Error;
+use std::fmt;
 
 // Why a call says no. Arguments are counted from 1, inputs before outputs.
-#[derive(Clone, Copy)]
+#[derive(Clone, Copy, Debug, PartialEq, Eq)]
 pub enum Refusal {
     // The argument has not an allowed length.
     Length(u8),
@@ -26,29 +29,9 @@ pub enum Refusal {
     NoJob,
 }
 
-// What a call that fills buffers answers.
-#[derive(Clone, Copy)]
-pub enum Answer {
-    Done,
-    Refused(Refusal),
-}
-
-// What a call that gives a number answers, whether or not it fills buffers.
-#[derive(Clone, Copy)]
-pub enum Given {
-    Value(u64),
-    NotGiven(Refusal),
-}
-
-// What a call that gives two numbers answers.
-#[derive(Clone, Copy)]
-pub enum GivenTwo {
-    Values(u64, u64),
-    NeitherGiven(Refusal),
-}
-
 // A refusal as docs/SCHEME.md writes it.
-#[derive(Clone, Copy)]
+// Stays: `number` is no enum, since the C interface has it as a number (`galmuriec_refusal` of include/galmuriec.h, `entry` of galmuriec_c).
+#[derive(Clone, Copy, Debug, PartialEq, Eq)]
 pub struct Record {
     pub number: u8,
     pub argument: u8,
@@ -65,11 +48,15 @@ fn plain(number: u8, argument: u8) -> Record
     }
 }
 
-impl Refusal {
-    pub fn record(self) -> Record
-        ensures { sign result.number result.argument result.place ≡ paper self }
-    {
-        match self {
+impl From<Refusal> for Record {
+    ghost use Rattle.std.specs.Prelude.{◌≡◌};
+    ghost use Rattle.refusals.specs.Judgement.{sign};
+    ghost use Rattle.refusals.specs.Answers.{paper};
+
+    ghost from_gives = { λ refusal r. sign r.number r.argument r.place ≡ paper refusal };
+
+    fn from(refusal: Refusal) -> Record {
+        match refusal {
             Refusal::Length(a) => plain(1, a),
             Refusal::Coefficient(a, i) => Record {
                 number: 2,
@@ -83,184 +70,190 @@ impl Refusal {
     }
 }
 
-// The index of the first number that is p or more, or the length where there is none.
-fn first_bad(s: &[u64]) -> usize
-    ensures { result ≡ lead s.now }
-{
-    let mut i = 0;
-    while i < s.len() {
-        let is_bad = s[i] >= BFieldElement::P;
-        if is_bad {
-            return i;
-        }
-        i += 1;
+impl fmt::Display for Refusal {
+    ghost use Rattle.std.specs.Prelude.{Some};
+    ghost use Rattle.refusals.specs.Answers.{paper, sentence};
+
+    ghost output = { λ refusal. Some (sentence (paper refusal)) };
+
+    fn fmt<W: fmt::Write>(&self, f: &mut fmt::Formatter<W>) -> fmt::Result {
+        let r = Record::from(*self);
+        write!(
+            f,
+            "refusal {}, argument {}, place {}",
+            r.number, r.argument, r.place
+        )
     }
-    i
+}
+
+impl Error for Refusal {}
+
+// The index of the first number that is p or more.
+fn first_bad(s: &[u64]) -> Option<usize>
+    ensures { result ≡ position (λ x. nat_le P x) s.now }
+{
+    s.iter().position(|x| *x >= BFieldElement::P)
 }
 
 // The same for numbers in bytes.
-fn first_bad_packed(s: &[u8]) -> usize
-    ensures { result ≡ lead (words s.now) }
+// Stays: `position` over `as_chunks::<8>` finds the place among the chunks, and the contract is about `words`: two functions for this one loop.
+fn first_bad_packed(s: &[u8]) -> Option<usize>
+    ensures { result ≡ position (λ x. nat_le P x) (words s.now) }
 {
-    let n = s.len() / 8;
-    let mut i = 0;
-    while i < n {
+    for i in 0..s.len() / 8 {
         if codec::load(s, 8 * i) >= BFieldElement::P {
-            return i;
+            return Some(i);
         }
-        i += 1;
     }
-    i
+    None
 }
 
-// ---- the steps of judging: each takes the answer so far, and a refusal stays
-impl Answer {
-    // A test that an argument must stand, or else this refusal.
-    pub fn unless(self, stands: bool, refusal: Refusal) -> Answer
-        ensures { said result ≡ blame (paper refusal).argument (pick stands no_fault (as_fault (paper refusal))) (said self) }
-    {
-        match self {
-            Answer::Refused(_) => self,
-            Answer::Done => {
-                if stands {
-                    Answer::Done
-                } else {
-                    Answer::Refused(refusal)
-                }
-            }
-        }
-    }
+// ---- the steps of judging, in turn: the first refusal stays (`blame_then` of proofs/Steps)
+// A test that an argument must stand, or else this refusal.
+#[tactic(auto, unfolding(crate::specs::Judgement::blame))]
+pub fn unless(stands: bool, refusal: Refusal) -> Result<(), Refusal>
+    ensures { said result ≡ blame (paper refusal).argument (pick stands no_fault (as_fault (paper refusal))) fine }
+{
+    if stands { Ok(()) } else { Err(refusal) }
+}
 
-    // The length of an argument.
-    pub fn sized(self, argument: u8, fits: bool) -> Answer
-        ensures { said result ≡ blame argument (unless fits 1) (said self) }
-    {
-        self.unless(fits, Refusal::Length(argument))
-    }
+// The length of an argument.
+pub fn sized(argument: u8, fits: bool) -> Result<(), Refusal>
+    ensures { said result ≡ blame argument (unless fits 1) fine }
+{
+    unless(fits, Refusal::Length(argument))
+}
 
-    // Where the first bad of `count` coefficients of an argument stands, or `count`.
-    fn found(self, argument: u8, at: usize, count: usize) -> Answer
-        ensures { said result ≡ blame argument (found at count) (said self) }
-    {
-        match self {
-            Answer::Refused(_) => self,
-            Answer::Done => {
-                if at < count {
-                    Answer::Refused(Refusal::Coefficient(argument, at as u64))
-                } else {
-                    Answer::Done
-                }
-            }
-        }
+// The first bad coefficient of an argument, if it has one.
+#[tactic(auto, unfolding(crate::specs::Judgement::blame))]
+fn found(argument: u8, bad: Option<usize>) -> Result<(), Refusal>
+    ensures { said result ≡ blame argument (placed bad) fine }
+{
+    match bad {
+        Some(at) => Err(Refusal::Coefficient(argument, at as u64)),
+        None => Ok(()),
     }
+}
 
-    // A field value.
-    pub fn value(self, argument: u8, x: u64) -> Answer
-        ensures { said result ≡ blame argument (canonicals (value x)) (said self) }
-    {
-        if x < BFieldElement::P {
-            self.found(argument, 1, 1)
-        } else {
-            self.found(argument, 0, 1)
-        }
+// A field value.
+#[tactic(auto, unfolding(crate::specs::Arguments::fits, crate::specs::Arguments::coefficients))]
+pub fn value(argument: u8, x: u64) -> Result<(), Refusal>
+    ensures { said result ≡ blame argument (canonicals (value x)) fine }
+{
+    numbers(argument, &[x], 1)
+}
+
+// The coefficients of an argument that should have n.
+pub fn numbers(argument: u8, s: &[u64], n: usize) -> Result<(), Refusal>
+    ensures { said result ≡ blame argument (canonicals (numbers n s.now)) fine }
+{
+    if s.len() == n {
+        found(argument, first_bad(s))
+    } else {
+        Ok(())
     }
+}
 
-    // The coefficients of an argument that should have n.
-    pub fn numbers(self, argument: u8, s: &[u64], n: usize) -> Answer
-        ensures { said result ≡ blame argument (canonicals (numbers n s.now)) (said self) }
-    {
-        if s.len() == n {
-            self.found(argument, first_bad(s), n)
-        } else {
-            self
-        }
-    }
-
-    // The coefficients of an argument that should have n bytes, the first of them at `start`.
-    pub fn packed(self, argument: u8, s: &[u8], n: usize, start: usize) -> Answer
-        ensures { said result ≡ blame argument (canonicals (packed n start s.now)) (said self) }
-    {
-        if s.len() == n {
-            if start <= n {
-                let t = &s[start..n];
-                self.found(argument, first_bad_packed(t), t.len() / 8)
-            } else {
-                self
-            }
-        } else {
-            self
-        }
+// The coefficients of an argument that should have n bytes, the first of them at `start`.
+pub fn packed(argument: u8, s: &[u8], n: usize, start: usize) -> Result<(), Refusal>
+    ensures { said result ≡ blame argument (canonicals (packed n start s.now)) fine }
+{
+    if s.len() == n && start <= n {
+        found(argument, first_bad_packed(&s[start..n]))
+    } else {
+        Ok(())
     }
 }
 
 // ---- one function for each shape of an argument list
+// Stays: those that differ in `==` and `<=` are two lines each; one function would take the comparison as a closure, which says less than its name.
+// Stays: a length and what it should be are two plain numbers; a struct of both makes each of the calls longer, and no contract shorter.
 // One field value.
-pub fn judge_value(a: u64) -> Answer
-    ensures { said result ≡ judged (value a ∷ []) }
+#[tactic(auto, using(crate::proofs::Calls::steps), unfolding(crate::specs::Judgement::judged))]
+pub fn judge_value(a: u64) -> Result<(), Refusal>
+    ensures { Judges (value a ∷ []) result }
 {
-    Answer::Done.value(1, a)
+    value(1, a)
 }
 
 // Two field values.
-pub fn judge_values(a: u64, b: u64) -> Answer
-    ensures { said result ≡ judged (value a ∷ value b ∷ []) }
+#[tactic(auto, using(crate::proofs::Calls::steps), unfolding(crate::specs::Judgement::judged))]
+pub fn judge_values(a: u64, b: u64) -> Result<(), Refusal>
+    ensures { Judges (value a ∷ value b ∷ []) result }
 {
-    Answer::Done.value(1, a).value(2, b)
+    value(1, a)?;
+    value(2, b)
 }
 
 // One slice of n coefficients, turned in place.
-pub fn judge_array(array: &[u64], n: usize) -> Answer
-    ensures { said result ≡ judged (numbers n array.now ∷ []) }
+#[tactic(auto, using(crate::proofs::Calls::steps), unfolding(crate::specs::Judgement::judged))]
+pub fn judge_array(array: &[u64], n: usize) -> Result<(), Refusal>
+    ensures { Judges (numbers n array.now ∷ []) result }
 {
-    Answer::Done.sized(1, array.len() == n).numbers(1, array, n)
+    sized(1, array.len() == n)?;
+    numbers(1, array, n)
 }
 
 // Two slices of l and m coefficients, and a buffer that has `size` and should have n.
-pub fn judge_operands(lhs: &[u64], l: usize, rhs: &[u64], m: usize, size: usize, n: usize) -> Answer
-    ensures { said result ≡ judged (numbers l lhs.now ∷ numbers m rhs.now ∷ room n size ∷ []) }
+#[tactic(auto, using(crate::proofs::Calls::steps), unfolding(crate::specs::Judgement::judged))]
+pub fn judge_operands(
+    lhs: &[u64],
+    l: usize,
+    rhs: &[u64],
+    m: usize,
+    size: usize,
+    n: usize,
+) -> Result<(), Refusal>
+    ensures { Judges (numbers l lhs.now ∷ numbers m rhs.now ∷ room n size ∷ []) result }
 {
-    Answer::Done
-        .sized(1, lhs.len() == l)
-        .sized(2, rhs.len() == m)
-        .sized(3, size == n)
-        .numbers(1, lhs, l)
-        .numbers(2, rhs, m)
+    sized(1, lhs.len() == l)?;
+    sized(2, rhs.len() == m)?;
+    sized(3, size == n)?;
+    numbers(1, lhs, l)?;
+    numbers(2, rhs, m)
 }
 
 // One slice of l coefficients, and a buffer that has `size` and should have n.
-pub fn judge_reading(from: &[u64], l: usize, size: usize, n: usize) -> Answer
-    ensures { said result ≡ judged (numbers l from.now ∷ room n size ∷ []) }
+#[tactic(auto, using(crate::proofs::Calls::steps), unfolding(crate::specs::Judgement::judged))]
+pub fn judge_reading(from: &[u64], l: usize, size: usize, n: usize) -> Result<(), Refusal>
+    ensures { Judges (numbers l from.now ∷ room n size ∷ []) result }
 {
-    Answer::Done
-        .sized(1, from.len() == l)
-        .sized(2, size == n)
-        .numbers(1, from, l)
+    sized(1, from.len() == l)?;
+    sized(2, size == n)?;
+    numbers(1, from, l)
 }
 
 // Bytes of which any will do: they number `given` and should be l.
-pub fn judge_bytes(given: usize, l: usize) -> Answer
-    ensures { said result ≡ judged (room l given ∷ []) }
+#[tactic(auto, using(crate::proofs::Calls::steps), unfolding(crate::specs::Judgement::judged))]
+pub fn judge_bytes(given: usize, l: usize) -> Result<(), Refusal>
+    ensures { Judges (room l given ∷ []) result }
 {
-    Answer::Done.sized(1, given == l)
+    sized(1, given == l)
 }
 
 // The same, and a buffer that has `size` and should have n.
-pub fn judge_sampling(given: usize, l: usize, size: usize, n: usize) -> Answer
-    ensures { said result ≡ judged (room l given ∷ room n size ∷ []) }
+#[tactic(auto, using(crate::proofs::Calls::steps), unfolding(crate::specs::Judgement::judged))]
+pub fn judge_sampling(given: usize, l: usize, size: usize, n: usize) -> Result<(), Refusal>
+    ensures { Judges (room l given ∷ room n size ∷ []) result }
 {
-    Answer::Done.sized(1, given == l).sized(2, size == n)
+    sized(1, given == l)?;
+    sized(2, size == n)
 }
 
 // A message of at most l bytes, and an output of at most n.
-pub fn judge_stream(given: usize, l: usize, size: usize, n: usize) -> Answer
-    ensures { said result ≡ judged (at_most l given ∷ at_most n size ∷ []) }
+#[tactic(auto, using(crate::proofs::Calls::steps), unfolding(crate::specs::Judgement::judged))]
+pub fn judge_stream(given: usize, l: usize, size: usize, n: usize) -> Result<(), Refusal>
+    ensures { Judges (at_most l given ∷ at_most n size ∷ []) result }
 {
-    Answer::Done.sized(1, given <= l).sized(2, size <= n)
+    sized(1, given <= l)?;
+    sized(2, size <= n)
 }
 
 // A message of at most l bytes, and an output of n.
-pub fn judge_digest(given: usize, l: usize, size: usize, n: usize) -> Answer
-    ensures { said result ≡ judged (at_most l given ∷ room n size ∷ []) }
+#[tactic(auto, using(crate::proofs::Calls::steps), unfolding(crate::specs::Judgement::judged))]
+pub fn judge_digest(given: usize, l: usize, size: usize, n: usize) -> Result<(), Refusal>
+    ensures { Judges (at_most l given ∷ room n size ∷ []) result }
 {
-    Answer::Done.sized(1, given <= l).sized(2, size == n)
+    sized(1, given <= l)?;
+    sized(2, size == n)
 }

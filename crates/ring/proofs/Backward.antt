@@ -3,10 +3,10 @@
 use mathlib.Core.Path.{◌≡◌, refl, sym, ◌∙◌, ap, subst}
 use mathlib.Core.List.{List}
 use Prim.Native.Nat.{ℕ, ◌+◌, ◌*◌, ◌-◌, ◌%◌, ◌≤◌, ◌<◌}
-use native.Mathlib.Nat.{mod-lt, mul-le-mul_right}
+use native.Mathlib.Nat.{mul-le-mul_right}
 use native.Mathlib.Omega.{arith}
 use native.Mathlib.Decide.{dec_lt}
-use lib.ListN.{get_or, set}
+use lib.ListN.{get_or}
 use Rattle.laws.specs.Lists.{tab}
 use Rattle.laws.specs.Rings.{pow, poly}
 use Rattle.laws.proofs.Lists.{get_or-tab}
@@ -17,34 +17,15 @@ use Rattle.laws.proofs.Residues.{mk_mod, mk_add, mk_mul, mk_sub}
 use Rattle.laws.proofs.Halving.{dbl, leaf_pow, bwd_left, bwd_right}
 use Rattle.field.specs.Field.{P, Coefficients}
 use Rattle.ring.specs.Transform.{zeta_inv, inv64, untransform}
-use Rattle.ring.specs.Stages.{sum_back, difference_back, stage_at, backward, unscaled, scaled}
+use Rattle.ring.specs.Stages.{sum_back, difference_back, backward_canonical, stage_at, backward, unscaled, scaled}
 use Rattle.ring.proofs.Residue.{F, el, co, co_tab, p_pos, remainders}
-use Rattle.ring.proofs.Zetas.{zeta_inv_reduced}
 use Rattle.ring.proofs.Roots.{W, U, roots, sixty_fourth}
 use Rattle.ring.proofs.Transforms.{untransform_only}
-use Rattle.ring.proofs.Blocks.{rule_low, rule_high, Step, step_below, Turned, turned_more, block_fits, entry-fits}
-
-abbrev pub back : Step
-back = record {
-  low = sum_back;
-  high = difference_back;
-  table = zeta_inv;
-  low_below = λ z u w. mod-lt _ p_pos;
-  high_below = λ z u w. mod-lt _ p_pos;
-  held = zeta_inv;
-  made = λ n. n % P;
-  is = zeta_inv_reduced;
-}
-
--- one turn of the loop over a block: v is the difference, before its zeta
-pub turned_backward : {z s t end j a b v : ℕ} {old new : List ℕ} → Turned sum_back difference_back z s t end j old new → j < end
-    → a ≡ (get_or new j 0 + get_or new (j + t) 0) % P → v ≡ (get_or new j 0 + (P - get_or new (j + t) 0)) % P → b ≡ z * v % P
-    → Turned sum_back difference_back z s t end (j + 1) old (set (set new j a) (j + t) b)
-turned_backward {z} x h ea ev eb = turned_more x h ea (eb ∙ ap (λ n. z * n % P) ev)
+use Rattle.ring.proofs.Blocks.{rule_low, rule_high, stage_below, block_fits, entry-fits}
 
 pub backward-canonical : (m t : ℕ) (l : List ℕ) → Coefficients 64 (backward m t l)
 unfolding backward
-backward-canonical m t l = tab_below P 64 (stage_at sum_back difference_back zeta_inv m t l) p_pos (λ k h. step_below back m t l k)
+backward-canonical m t l = tab_below P 64 (stage_at sum_back difference_back zeta_inv m t l) p_pos (λ k h. stage_below backward_canonical zeta_inv m t l k)
 
 -- a butterfly over F
 el_sum : (z u w : ℕ) → el (sum_back z u w) ≡ F.add (el u) (el w)

@@ -18,7 +18,6 @@ use Rattle.laws.proofs.Updates.{Filled, mapped_none, mapped_all}
 use Rattle.laws.proofs.Bounds.{mapped_below}
 use Rattle.field.specs.Field.{P, Coefficients}
 use Rattle.ring.specs.Stages.{Butterflied, stage_at}
-use Rattle.ring.proofs.Zetas.{entry_is}
 
 module _ (f g : ℕ → ℕ → ℕ) (s t : ℕ) where
   pub butterflied_none : (l : List ℕ) → Butterflied f g s t s l l
@@ -180,69 +179,56 @@ module _ (m t i : ℕ) (size : m * (t + t) ≡ 64) (h : i < m) where
   pub entry-fits : m + i < 64
   entry-fits = omega (arith, few_blocks m t size)
 
--- ---- a stage of either transform
--- the two new numbers of a butterfly, both canonical, and its zeta; and what the code's table holds, of which it makes the zeta
-pub record Step : Type 0 where
-  pub low : ℕ → ℕ → ℕ → ℕ
-  pub high : ℕ → ℕ → ℕ → ℕ
-  pub table : ℕ → ℕ
-  pub low_below : (z u w : ℕ) → low z u w < P
-  pub high_below : (z u w : ℕ) → high z u w < P
-  pub held : ℕ → ℕ
-  pub made : ℕ → ℕ
-  pub is : (k : ℕ) → made (held k) ≡ table k
+-- ---- a stage of either transform, whose butterflies make canonical numbers
+abbrev pub Canonical : (f g : ℕ → ℕ → ℕ → ℕ) → Type 0
+Canonical f g = (z u w : ℕ) → (f z u w < P) × (g z u w < P)
 
-abbrev pub step-at : Step → ℕ → ℕ → List ℕ → ℕ → ℕ
-step-at S = stage_at S.low S.high S.table
-
--- what it stores is canonical
-pub step_below : (S : Step) (m t : ℕ) (l : List ℕ) (x : ℕ) → step-at S m t l x < P
-step_below S m t l x = go (ltb (x % (t + t)) t)
+-- so what a stage stores is canonical
+pub stage_below : {f g : ℕ → ℕ → ℕ → ℕ} → Canonical f g → (table : ℕ → ℕ) (m t : ℕ) (l : List ℕ) (x : ℕ) → stage_at f g table m t l x < P
+stage_below {f} {g} c table m t l x = go (ltb (x % (t + t)) t)
   where
-    go : (c : Bool) → elim c as (λ y. ℕ) [
-      | true ↦ S.low (S.table (m + x / (t + t))) (get_or l x 0) (get_or l (x + t) 0)
-      | false ↦ S.high (S.table (m + x / (t + t))) (get_or l (x - t) 0) (get_or l x 0)
+    go : (b : Bool) → elim b as (λ y. ℕ) [
+      | true ↦ f (table (m + x / (t + t))) (get_or l x 0) (get_or l (x + t) 0)
+      | false ↦ g (table (m + x / (t + t))) (get_or l (x - t) 0) (get_or l x 0)
     ] < P
-    go true = S.low_below _ _ _
-    go false = S.high_below _ _ _
+    go true = (c _ _ _).0
+    go false = (c _ _ _).1
 
 -- i of the m blocks are done
-pub record Staged (S : Step) (m t : ℕ) (old : List ℕ) (i : ℕ) (new : List ℕ) : Type 0 where
+pub record Staged (f g : ℕ → ℕ → ℕ → ℕ) (table : ℕ → ℕ) (m t : ℕ) (old : List ℕ) (i : ℕ) (new : List ℕ) : Type 0 where
   pub size : m * (t + t) ≡ 64
   pub few : m ≤ 32
   pub canonical : Coefficients 64 old
   pub within : i ≤ m
-  pub done : Filled (step-at S m t old) (i * (t + t)) old new
+  pub done : Filled (stage_at f g table m t old) (i * (t + t)) old new
 
-pub staged_none : {S : Step} {m t : ℕ} {old : List ℕ} → m * (t + t) ≡ 64 → Coefficients 64 old → Staged S m t old 0 old
-staged_none {S} {m} {t} {old} e c = record {
+pub staged_none : {f g : ℕ → ℕ → ℕ → ℕ} {table : ℕ → ℕ} {m t : ℕ} {old : List ℕ} → m * (t + t) ≡ 64 → Coefficients 64 old
+    → Staged f g table m t old 0 old
+staged_none {f} {g} {table} {m} {t} {old} e c = record {
   size = e;
   few = few_blocks m t e;
   canonical = c;
   within = omega arith;
-  done = stage_none S.low S.high S.table m t old;
+  done = stage_none f g table m t old;
 }
 
-module _ {S : Step} {m t : ℕ} {old : List ℕ} {i : ℕ} {now : List ℕ} (x : Staged S m t old i now) where
-  pub staged_canonical : Coefficients 64 now
-  staged_canonical = mapped_below (step_below S m t old) x.canonical x.done
+module _ {f g : ℕ → ℕ → ℕ → ℕ} {table : ℕ → ℕ} {m t : ℕ} {old : List ℕ} {i : ℕ} {now : List ℕ} (x : Staged f g table m t old i now) where
+  pub staged_canonical : Canonical f g → Coefficients 64 now
+  staged_canonical c = mapped_below (stage_below c table m t old) x.canonical x.done
 
   pub staged_room : i < m → i * (t + t) + t + t ≤ 64
   staged_room h = block_fits m t i x.size h
 
-  -- one block more, with the zeta that is made of the table's entry
-  pub staged_more : {z : ℕ} {entries new : List ℕ} → i < m → entries ≡ tab 64 S.held → z ≡ S.made (get_or entries (m + i) 0)
-      → Butterflied (S.low z) (S.high z) (i * (t + t)) t (i * (t + t) + t) now new → Staged S m t old (i + 1) new
-  staged_more {z} {entries} {new} h l e b = record {
+  -- one block more
+  pub staged_more : {z : ℕ} {new : List ℕ} → i < m → z ≡ table (m + i)
+      → Butterflied (f z) (g z) (i * (t + t)) t (i * (t + t) + t) now new → Staged f g table m t old (i + 1) new
+  staged_more {z} {new} h e b = record {
     size = x.size;
     few = x.few;
     canonical = x.canonical;
     within = omega arith;
-    done = stage_more S.low S.high S.table m t old i z now new zeta x.done b;
+    done = stage_more f g table m t old i z now new e x.done b;
   }
-    where
-      zeta : z ≡ S.table (m + i)
-      zeta = e ∙ ap S.made (entry_is S.held (m + i) (omega (arith, x.few)) l) ∙ S.is (m + i)
 
-  pub staged_all : i ≡ m → (now ≡ tab 64 (step-at S m t old)) × Coefficients 64 now
-  staged_all e = (stage_all S.low S.high S.table m t old i now e x.size x.canonical.size x.done, staged_canonical)
+  pub staged_all : Canonical f g → i ≡ m → (now ≡ tab 64 (stage_at f g table m t old)) × Coefficients 64 now
+  staged_all c e = (stage_all f g table m t old i now e x.size x.canonical.size x.done, staged_canonical c)

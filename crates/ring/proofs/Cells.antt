@@ -1,11 +1,10 @@
 -- The elements of a flat list of ring elements.
-use mathlib.Core.Path.{◌≡◌, sym, ◌∙◌, ap, subst}
+use mathlib.Core.Path.{◌≡◌, sym, ◌∙◌, ap}
 use mathlib.Core.List.{List}
 use Prim.Native.Nat.{ℕ, ◌+◌, ◌*◌, ◌-◌, ◌/◌, ◌%◌, ◌≤◌, ◌<◌}
 use native.Mathlib.Omega.{arith}
-use native.Mathlib.Decide.{ℕ_discrete}
-use lib.ListN.{length, get_or, set, drop, length-set, length-drop}
-use lib.Seq.{get_or-set_same, get_or-set_other, length-take-le, get_or-take, get_or-drop}
+use lib.ListN.{length, get_or, drop, length-drop}
+use lib.Seq.{length-take-le, get_or-take, get_or-drop}
 use Rattle.laws.specs.Lists.{part}
 use Rattle.laws.proofs.Lists.{get_or-tab, is_tab, tab_ext}
 use Rattle.laws.proofs.Bounds.{tab_below, below_as}
@@ -74,86 +73,66 @@ module _ (m : ℕ) (u w : List ℕ) (i : ℕ) (h : i * 64 + 64 ≤ m) where
       get_or-tab m (λ x. (get_or u x 0 + (P - get_or w x 0)) % P) 0 (i * 64 + k) (omega arith)
       ∙ (λ j. (sym (cell_at u i k g) j + (P - sym (cell_at w i k g) j)) % P))
 
--- ---- elements stored one after another, place after place: n of the places of count elements are there
-pub record Flattened (f : ℕ → List ℕ) (count n : ℕ) (l : List ℕ) : Type 0 where
-  pub size : length l ≡ count * 64
-  pub passed : (x : ℕ) → x < n → get_or l x 0 ≡ get_or (f (x / 64)) (x % 64) 0
-
-module _ {f : ℕ → List ℕ} {count : ℕ} {l : List ℕ} where
-  pub flattened_none : length l ≡ count * 64 → Flattened f count 0 l
-  flattened_none h = record { size = h; passed = λ x q. absurd (omega arith) }
-
-  pub flattened_at : {m n : ℕ} → m ≡ n → Flattened f count m l → Flattened f count n l
-  flattened_at e = subst (λ n. Flattened f count n l) e
-
-  -- place k of element i
-  pub flattened_more : (i k v : ℕ) → i < count → k < 64 → v ≡ get_or (f i) k 0 → Flattened f count (i * 64 + k) l
-      → Flattened f count (i * 64 + (k + 1)) (set l (i * 64 + k) v)
-  flattened_more i k v hi hk e c = record {
-    size = length-set l (i * 64 + k) v ∙ c.size;
-    passed = λ x q. at x q (ℕ_discrete x (i * 64 + k));
-  }
-    where
-      here : get_or (set l (i * 64 + k) v) (i * 64 + k) 0 ≡ get_or (f ((i * 64 + k) / 64)) ((i * 64 + k) % 64) 0
-      here =
-          let d : i ≡ (i * 64 + k) / 64 = omega arith in
-          let o : k ≡ (i * 64 + k) % 64 = omega arith in
-          get_or-set_same l (i * 64 + k) v 0 (omega (arith, c.size)) ∙ e ∙ (λ j. get_or (f (d j)) (o j) 0)
-
-      at : (x : ℕ) → x < i * 64 + (k + 1) → Dec (x ≡ i * 64 + k) → get_or (set l (i * 64 + k) v) x 0 ≡ get_or (f (x / 64)) (x % 64) 0
-      at x q (yes y) = subst (λ n. get_or (set l (i * 64 + k) v) n 0 ≡ get_or (f (n / 64)) (n % 64) 0) (sym y) here
-      at x q (no y) = get_or-set_other l (i * 64 + k) x v 0 y ∙ c.passed x (omega arith)
-
-  pub flattened_all : (n : ℕ) → n ≡ count → Flattened f count (n * 64) l → l ≡ flat count f
-  unfolding flat
-  flattened_all n e c = is_tab (count * 64) (λ x. get_or (f (x / 64)) (x % 64) 0) 0 l c.size (λ x h. c.passed x (omega arith))
-
--- ---- elements transformed in place, one after the other: i of n are done
-pub record Transformed (n i : ℕ) (old new : List ℕ) : Type 0 where
-  pub canonical : Coefficients (n * 64) old
+-- ---- elements stored one after another: i of n are there
+pub record Stored (f : ℕ → List ℕ) (n i : ℕ) (old new : List ℕ) : Type 0 where
+  pub size : length old ≡ n * 64
   pub within : i ≤ n
-  pub done : Filled (λ x. get_or (transform (cell old (x / 64))) (x % 64) 0) (i * 64) old new
+  pub done : Filled (λ x. get_or (f (x / 64)) (x % 64) 0) (i * 64) old new
 
-pub transformed_none : {n : ℕ} {old : List ℕ} → Coefficients (n * 64) old → Transformed n 0 old old
-transformed_none c = record { canonical = c; within = omega arith; done = mapped_none _ _ }
+pub stored_none : {f : ℕ → List ℕ} {n : ℕ} {old : List ℕ} → length old ≡ n * 64 → Stored f n 0 old old
+stored_none e = record { size = e; within = omega arith; done = mapped_none _ _ }
 
 -- the places from i * 64 up to i * 64 + 64
 abbrev pub width : ℕ → ℕ
 width i = i * 64 + 64 - i * 64
 
-module _ {n i : ℕ} {old new : List ℕ} (t : Transformed n i old new) (h : i < n) where
-  -- what a turn is lent is the next element as it was
-  part-cell : part (i * 64) (width i) new ≡ cell old i
-  unfolding cell
-  part-cell =
+module _ {f : ℕ → List ℕ} {n i : ℕ} {old new : List ℕ} (s : Stored f n i old new) where
+  -- what a turn is lent is 64 numbers, the next element as it was
+  pub stored_size : i < n → length (part (i * 64) (width i) new) ≡ 64
+  stored_size h =
       let e : width i ≡ 64 = omega arith in
-      let s : i * 64 + 64 ≤ length new = omega (arith, t.canonical.size, t.done.same_length) in
-      is_tab 64 _ 0 (part (i * 64) (width i) new) (length-take-le (width i) (drop (i * 64) new) (omega (arith, length-drop (i * 64) new)) ∙ e)
-      (λ k l. get_or-take (width i) (drop (i * 64) new) k 0 (omega arith) ∙ get_or-drop (i * 64) new k 0 ∙ t.done.rest (i * 64 + k) (omega arith))
+      length-take-le (width i) (drop (i * 64) new) (omega (arith, s.size, s.done.same_length, length-drop (i * 64) new)) ∙ e
 
-  pub transformed_next : Coefficients 64 (part (i * 64) (width i) new)
-  transformed_next = below_as part-cell (cell-canonical old t.canonical.each i)
+  pub stored_next : i < n → part (i * 64) (width i) new ≡ cell old i
+  unfolding cell
+  stored_next h = is_tab 64 _ 0 (part (i * 64) (width i) new) (stored_size h) (λ k l.
+      get_or-take (width i) (drop (i * 64) new) k 0 (omega arith) ∙ get_or-drop (i * 64) new k 0 ∙ s.done.rest (i * 64 + k) (omega arith))
 
-  pub transformed_more : {r : List ℕ} → r ≡ transform (part (i * 64) (width i) new) → Transformed n (i + 1) old (put (i * 64) (width i) r new)
-  transformed_more {r} e = record {
-    canonical = t.canonical;
+  pub stored_more : (r : List ℕ) → i < n → length r ≡ 64 → ((k : ℕ) → k < 64 → get_or r k 0 ≡ get_or (f i) k 0)
+      → Stored f n (i + 1) old (put (i * 64) (width i) r new)
+  stored_more r h e q = record {
+    size = s.size;
     within = omega arith;
     done =
-        let size : length r ≡ width i = ap length is ∙ (transform-canonical (cell old i)).size ∙ (let w : 64 ≡ width i = omega arith in w) in
-        let fits : i * 64 + width i ≤ length old = omega (arith, t.canonical.size) in
-        mapped_at (let s : i * 64 + width i ≡ (i + 1) * 64 = omega arith in s)
-        (mapped_put _ (i * 64) (width i) r old new size fits (λ k l. at k (omega arith)) t.done);
+        let size : length r ≡ width i = e ∙ (let w : 64 ≡ width i = omega arith in w) in
+        let fits : i * 64 + width i ≤ length old = omega (arith, s.size) in
+        mapped_at (let w : i * 64 + width i ≡ (i + 1) * 64 = omega arith in w)
+        (mapped_put _ (i * 64) (width i) r old new size fits (λ k l. at k (omega arith)) s.done);
   }
     where
-      is : r ≡ transform (cell old i)
-      is = e ∙ ap transform part-cell
-
-      at : (k : ℕ) → k < 64 → get_or r k 0 ≡ get_or (transform (cell old ((i * 64 + k) / 64))) ((i * 64 + k) % 64) 0
+      at : (k : ℕ) → k < 64 → get_or r k 0 ≡ get_or (f ((i * 64 + k) / 64)) ((i * 64 + k) % 64) 0
       at k l =
           let d : i ≡ (i * 64 + k) / 64 = omega arith in
           let o : k ≡ (i * 64 + k) % 64 = omega arith in
-          ap (λ l. get_or l k 0) is ∙ (λ j. get_or (transform (cell old (d j))) (o j) 0)
+          q k l ∙ (λ j. get_or (f (d j)) (o j) 0)
+
+  pub stored_all : i ≡ n → new ≡ flat n f
+  unfolding flat
+  stored_all e = mapped_end _ (n * 64) (i * 64) old new (ap (λ k. k * 64) e) s.size s.done
+
+-- each of them transformed in place
+abbrev pub Transformed : ℕ → ℕ → List ℕ → List ℕ → Type 0
+Transformed n i old new = Stored (λ j. transform (cell old j)) n i old new
+
+module _ {n i : ℕ} {old new : List ℕ} (s : Transformed n i old new) (h : i < n) where
+  pub transformed_next : Coefficients (n * 64) old → Coefficients 64 (part (i * 64) (width i) new)
+  transformed_next c = below_as (stored_next s h) (cell-canonical old c.each i)
+
+  pub transformed_more : (r : List ℕ) → r ≡ transform (part (i * 64) (width i) new) → Transformed n (i + 1) old (put (i * 64) (width i) r new)
+  transformed_more r e =
+      let is = e ∙ ap transform (stored_next s h) in
+      stored_more s r h (ap length is ∙ (transform-canonical (cell old i)).size) (λ k l. ap (λ l. get_or l k 0) is)
 
 pub transformed_all : {n i : ℕ} {old new : List ℕ} → Transformed n i old new → i ≡ n → new ≡ transforms n old
-unfolding transforms flat
-transformed_all {n} {i} {old} {new} t e = mapped_end _ (n * 64) (i * 64) old new (ap (λ k. k * 64) e) t.canonical.size t.done
+unfolding transforms
+transformed_all s e = stored_all s e

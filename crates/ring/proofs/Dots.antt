@@ -1,8 +1,8 @@
 -- What the loops of the matrix product store, place after place: four products, reduced once.
 use mathlib.Core.Path.{◌≡◌, sym, ◌∙◌, ap}
 use mathlib.Core.List.{List}
-use Prim.Native.Nat.{ℕ, ◌+◌, ◌*◌, ◌%◌, ◌≤◌, ◌<◌}
-use native.Mathlib.Nat.{zero-add, mul-le-mul_right}
+use Prim.Native.Nat.{ℕ, ◌+◌, ◌*◌, ◌%◌, ◌<◌}
+use native.Mathlib.Nat.{zero-add}
 use native.Mathlib.Omega.{arith}
 use lib.ListN.{get_or}
 use Rattle.laws.specs.Sums.{total}
@@ -36,7 +36,3 @@ module _ (v m : List ℕ) (e row step k at : ℕ) (hk : k < 64) (ha : at ≡ e *
       + term 3 (192 + k) (at + 3 * (step * 64)) (omega arith) (omega arith) i) % P)
       ∙ ap (λ x. (x + f 1 + f 2 + f 3) % P) (sym (zero-add (f 0)))
       ∙ sym (get_or-tab 64 (λ j. total 4 (λ q. get_or (cell v q) j 0 * get_or (cell m (e * row + q * step)) j 0) % P) 0 k hk)
-
--- element e of the result takes matrix elements that are there
-pub element-fits : (count row step n e : ℕ) → (count * row + 3 * step + 1) * 64 ≤ n + row * 64 → e < count → e * row * 64 + 3 * (step * 64) + 64 ≤ n
-element-fits count row step n e h l = omega (arith, mul-le-mul_right row l)

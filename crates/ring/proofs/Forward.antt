@@ -5,44 +5,24 @@ use Prim.Native.Nat.{ℕ, ◌+◌, ◌*◌, ◌-◌, ◌%◌, ◌/◌, ◌<◌}
 use native.Mathlib.Nat.{mod-lt}
 use native.Mathlib.Omega.{arith}
 use native.Mathlib.Decide.{ℕ_discrete}
-use lib.ListN.{get_or, set}
+use lib.ListN.{get_or}
 use Rattle.laws.specs.Rings.{pow, poly}
 use Rattle.laws.proofs.Lists.{get_or-tab}
 use Rattle.laws.proofs.Bounds.{tab_below}
 use Rattle.laws.proofs.Sums.{pow-add, pow-one, poly_ext, poly-one}
 use Rattle.laws.proofs.Residues.{mk_mod, mk_add, mk_mul, mk_sub}
 use Rattle.laws.proofs.Halving.{fwd_left, fwd_right, neg_sq}
-use Rattle.field.specs.Field.{P, reduced, Coefficients}
+use Rattle.field.specs.Field.{P, Coefficients}
 use Rattle.ring.specs.Transform.{zeta, transform}
-use Rattle.ring.specs.Stages.{zeta_word, sum_of, difference_of, stage_at, forward}
+use Rattle.ring.specs.Stages.{sum_of, difference_of, forward_canonical, stage_at, forward}
 use Rattle.ring.proofs.Residue.{F, el, co, p_pos, same}
-use Rattle.ring.proofs.Zetas.{zeta-reduced, zeta_word_number}
 use Rattle.ring.proofs.Roots.{W, roots, heap_even}
 use Rattle.ring.proofs.Transforms.{transform-canonical, transform-value}
-use Rattle.ring.proofs.Blocks.{rule_low, rule_high, Step, step_below, Turned, turned_more, block_fits, entry-fits}
-
-abbrev pub onward : Step
-onward = record {
-  low = sum_of;
-  high = difference_of;
-  table = zeta;
-  low_below = λ z u w. mod-lt _ p_pos;
-  high_below = λ z u w. mod-lt _ p_pos;
-  held = zeta_word;
-  made = reduced;
-  is = λ k. zeta_word_number k ∙ zeta-reduced k;
-}
-
--- one turn of the loop over a block: v is the upper number times the zeta
-pub turned_forward : {z s t end j a b v : ℕ} {old new : List ℕ} → Turned sum_of difference_of z s t end j old new → j < end
-    → v ≡ z * get_or new (j + t) 0 % P → a ≡ (get_or new j 0 + v) % P → b ≡ (get_or new j 0 + (P - v)) % P
-    → Turned sum_of difference_of z s t end (j + 1) old (set (set new j a) (j + t) b)
-turned_forward {j = j} {new = new} x h ev ea eb =
-    turned_more x h (ea ∙ ap (λ n. (get_or new j 0 + n) % P) ev) (eb ∙ ap (λ n. (get_or new j 0 + (P - n)) % P) ev)
+use Rattle.ring.proofs.Blocks.{rule_low, rule_high, stage_below, block_fits, entry-fits}
 
 pub forward-canonical : (m t : ℕ) (l : List ℕ) → Coefficients 64 (forward m t l)
 unfolding forward
-forward-canonical m t l = tab_below P 64 (stage_at sum_of difference_of zeta m t l) p_pos (λ k h. step_below onward m t l k)
+forward-canonical m t l = tab_below P 64 (stage_at sum_of difference_of zeta m t l) p_pos (λ k h. stage_below forward_canonical zeta m t l k)
 
 -- a butterfly over F
 el_sum : (z u w : ℕ) → el (sum_of z u w) ≡ F.add (el u) (F.mul (el w) (el z))

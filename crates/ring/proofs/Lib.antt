@@ -8,6 +8,7 @@ pub mod Polynomials
 pub mod Cells
 pub mod Matrices
 pub mod Blocks
+pub mod Places
 pub mod Forward
 pub mod Zetas
 pub mod Backward

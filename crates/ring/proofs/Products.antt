@@ -2,13 +2,11 @@
 use mathlib.Core.Path.{◌≡◌, refl, sym, ◌∙◌, ap}
 use mathlib.Core.Bool.{Bool, true, false}
 use mathlib.Core.List.{List}
-use Prim.Native.Nat.{ℕ, ◌+◌, ◌*◌, ◌-◌, ◌%◌, ◌<◌}
+use Prim.Native.Nat.{ℕ, ◌+◌, ◌*◌, ◌-◌, ◌<◌}
 use lib.Dec.{leb}
-use lib.ListN.{get_or, set}
+use lib.ListN.{get_or}
 use Rattle.laws.specs.Rings.{poly}
 use Rattle.laws.specs.Sums.{total}
-use Rattle.laws.proofs.Congruence.{mul_mod_l}
-use Rattle.laws.proofs.Assigned.{Assigned, assigned_step}
 use Rattle.laws.proofs.Residues.{mk_add, mk_mul, mk_sub, mk_total}
 use Rattle.laws.proofs.Sums.{sum_ext, poly_ext, poly-add, poly-neg}
 use Rattle.laws.proofs.Convolution.{wrap, nega, nega_value}
@@ -103,9 +101,3 @@ pub multiplied : {a b s t u v w r : List ℕ} → Coefficients 64 a → Coeffici
     → w ≡ hadamard u v → r ≡ untransform w → r ≡ product a b
 multiplied {a} {b} ca cb es et eu ev ew er =
     er ∙ ap untransform (ew ∙ (λ i. hadamard ((eu ∙ ap transform es) i) ((ev ∙ ap transform et) i))) ∙ product_through a b ca cb
-
--- one more entry, where what multiplies was reduced
-pub multiplied_more : {n i : ℕ} {right old new : List ℕ} → Assigned (λ x y. x * y % P) n i old right old new → (z v : ℕ) → i < n
-    → z ≡ get_or new i 0 % P → v ≡ z * get_or right i 0 % P → Assigned (λ x y. x * y % P) n (i + 1) old right old (set new i v)
-multiplied_more {i = i} {right} {new = new} x z v h ez ev =
-    assigned_step x v h (ev ∙ ap (λ n. n * get_or right i 0 % P) ez ∙ mul_mod_l P (get_or new i 0) (get_or right i 0))

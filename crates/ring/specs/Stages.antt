@@ -1,5 +1,7 @@
 -- Nobody needs to believe this file: `forward-transform` (proofs/Forward) and `backward-untransform` (proofs/Backward) say that its steps come to
 -- `transform` and `untransform`. They are those of lattice.rs: a stage has m blocks of t + t numbers, a block t butterflies.
+use native.Mathlib.Nat.{mod-lt}
+use lib.Dec.{lit<}
 use Rattle.std.specs.Prelude.{◌≡◌, true, false, List, ℕ, ◌+◌, ◌*◌, ◌-◌, ◌/◌, ◌%◌, ◌≤◌, ◌<◌, ltb, length, get_or}
 use Rattle.laws.specs.Lists.{tab}
 use Rattle.field.specs.Field.{P}
@@ -23,6 +25,13 @@ sum_back z u w = (u + w) % P
 
 abbrev pub difference_back : ℕ → ℕ → ℕ → ℕ
 difference_back z u w = z * ((u + (P - w)) % P) % P
+
+-- all four are canonical
+pub forward_canonical : (z u w : ℕ) → (sum_of z u w < P) × (difference_of z u w < P)
+forward_canonical z u w = (mod-lt (u + z * w % P) (lit< tt), mod-lt (u + (P - z * w % P)) (lit< tt))
+
+pub backward_canonical : (z u w : ℕ) → (sum_back z u w < P) × (difference_back z u w < P)
+backward_canonical z u w = (mod-lt (u + w) (lit< tt), mod-lt (z * ((u + (P - w)) % P)) (lit< tt))
 
 -- the butterflies at s, s + 1, .. , j - 1 of the block of t + t numbers from s on; nothing else has changed
 pub record Butterflied (f g : ℕ → ℕ → ℕ) (s t j : ℕ) (old new : List ℕ) : Type 0 where

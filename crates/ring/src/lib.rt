@@ -2,20 +2,21 @@
 // product of matrices of them. A ring element is 64 canonical numbers, a matrix one flat slice of ring elements, row by row.
 #![tactic(auto)]
 
+mod directions; // forward and backward
 mod tables; // the zetas, and 1/64
 
 ghost use Rattle.std.specs.Prelude.{◌≡◌, ℕ, ◌+◌, ◌*◌, ◌-◌, ◌%◌, ◌^◌, ◌<◌, ◌≤◌, length, get_or};
 ghost use Rattle.laws.specs.Lists.{tab};
 ghost use Rattle.field.specs.Field.{P, Coefficients};
-ghost use Rattle.field.specs.Element.{Good, num};
-ghost use Rattle.field.specs.Sums.{amount, carries};
-ghost use Rattle.ring.specs.Transform.{transform, untransform, zeta, zeta_inv};
+ghost use Rattle.ring.specs.Transform.{transform, untransform, zeta};
 ghost use Rattle.ring.specs.Elements.{plus, minus, hadamard, product};
 ghost use Rattle.ring.specs.Matrices.{cell, flat, transforms, dot, matrix};
-ghost use Rattle.ring.specs.Stages.{zeta_word, sum_of, difference_of, sum_back, difference_back, Butterflied};
-ghost use Rattle.ring.specs.Stages.{forward, backward, unscaled, scaled};
+ghost use Rattle.ring.specs.Stages.{Butterflied, stage_at, unscaled, scaled};
 
-use field::{BFieldElement, SumOfProducts};
+use directions::{Backward, Direction, Forward};
+use field::BFieldElement;
+
+// Stays: that numbers are canonical, and how many, is asked of slices that C callers lend (`galmuriec_ring_add`), so no struct here can hold it.
 
 // The first table with its rule, as docs/SCHEME.md, "Transform", states it; the transforms read its words.
 pub fn powers_of_psi_bitreversed() -> [u64; 64]
@@ -24,135 +25,104 @@ pub fn powers_of_psi_bitreversed() -> [u64; 64]
     tables::POWERS_OF_PSI_BITREVERSED
 }
 
-fn zeta_words() -> [u64; 64]
-    ensures { result ≡ tab 64 zeta_word }
-{
-    tables::ZETA_WORDS
-}
-
-// One block of the forward transform.
-fn butterflies(array: &mut [u64], s: usize, t: usize, zeta: BFieldElement)
+// One block of a transform.
+// Stays: a turn writes two places of one slice, so that a loop over half of the block would still index the other half.
+fn butterflies<D: Direction>(array: &mut [u64], s: usize, t: usize, zeta: BFieldElement)
     requires coefficients { Coefficients 64 array.old }
-    requires t_bound { (s + t + t ≤ 64) × Good zeta }
-    ensures { Butterflied (sum_of (num zeta)) (difference_of (num zeta)) s t (s + t) array.old array.new }
+    requires t_bound { s + t + t ≤ 64 }
+    ensures { Butterflied (D.low zeta) (D.high zeta) s t (s + t) array.old array.new }
 {
     for j in s..s + t {
-        let u = array[j];
-        let v = zeta.scaled(array[j + t]);
-        array[j] = field::add_mod_p(u, v);
-        array[j + t] = field::sub_mod_p(u, v);
+        let (low, high) = D::butterfly(zeta, array[j], array[j + t]);
+        array[j] = low;
+        array[j + t] = high;
     }
 }
 
 // One stage: m blocks of t + t numbers.
-fn stage(array: &mut [u64], words: &[u64; 64], m: usize, t: usize)
+// Stays: with `chunks_exact_mut` `returns` stays open, since nothing is kept of what it lends.
+fn stage<D: Direction>(array: &mut [u64], direction: &D, m: usize, t: usize)
     requires coefficients { Coefficients 64 array.old }
-    requires words_value { (words.now ≡ tab 64 zeta_word) × (m * (t + t) ≡ 64) }
-    ensures { (array.new ≡ forward m t array.old) × Coefficients 64 array.new }
+    requires blocks { m * (t + t) ≡ 64 }
+    ensures { (array.new ≡ tab 64 (stage_at D.low D.high D.zetas m t array.old)) × Coefficients 64 array.new }
 {
     for i in 0..m {
-        let zeta = BFieldElement::from_word(words[m + i]);
-        butterflies(array, i * (t + t), t, zeta);
+        let zeta = direction.zeta(m + i);
+        butterflies::<D>(array, i * (t + t), t, zeta);
     }
 }
 
-// The stages are calls with constant sizes, which LLVM unrolls: a tenth less time than one loop over them takes.
-fn stages(array: &mut [u64], words: &[u64; 64])
-    requires { Coefficients 64 array.old × (words.now ≡ tab 64 zeta_word) }
+// The stages are calls with constant sizes, which LLVM unrolls.
+// Stays: `unstages` goes the other way, so one function for both would loop over the sizes, which takes a tenth more time.
+fn stages(array: &mut [u64], forward: &Forward)
+    requires { Coefficients 64 array.old }
     ensures { array.new ≡ transform array.old }
 {
-    stage(array, words, 1, 32);
-    stage(array, words, 2, 16);
-    stage(array, words, 4, 8);
-    stage(array, words, 8, 4);
-    stage(array, words, 16, 2);
-    stage(array, words, 32, 1);
+    stage(array, forward, 1, 32);
+    stage(array, forward, 2, 16);
+    stage(array, forward, 4, 8);
+    stage(array, forward, 8, 4);
+    stage(array, forward, 16, 2);
+    stage(array, forward, 32, 1);
 }
 
 pub fn coset_ntt_noswap_64(array: &mut [u64])
     requires { Coefficients 64 array.old }
     ensures { array.new ≡ transform array.old }
 {
-    let words = zeta_words();
-    stages(array, &words);
+    stages(array, &Forward::new());
 }
 
-// Each of four ring elements, in place. The words are taken once, as each mention of a table fills it anew.
+// Each of four ring elements, in place. The table is taken once, as each mention of it fills it anew.
+// Stays: with `chunks_exact_mut(64)` `returns` stays open, since nothing is kept of what it lends.
 pub fn coset_ntt_noswap_four(vector: &mut [u64])
     requires { Coefficients 256 vector.old }
     ensures { vector.new ≡ transforms 4 vector.old }
 {
-    let words = zeta_words();
+    let forward = Forward::new();
     for i in 0..4 {
         let start = i * 64;
         let end = start + 64;
-        stages(&mut vector[start..end], &words);
+        stages(&mut vector[start..end], &forward);
     }
 }
 
-// One block of the inverse transform.
-fn unbutterflies(array: &mut [u64], k: usize, t: usize, zeta: BFieldElement)
-    requires coefficients { Coefficients 64 array.old }
-    requires t_bound { (k + t + t ≤ 64) × Good zeta }
-    ensures { Butterflied (sum_back (num zeta)) (difference_back (num zeta)) k t (k + t) array.old array.new }
-{
-    for j in k..k + t {
-        let u = array[j];
-        let v = array[j + t];
-        array[j] = field::add_mod_p(u, v);
-        array[j + t] = zeta.scaled(field::sub_mod_p(u, v));
-    }
-}
-
-// One stage of the inverse: h blocks of t + t numbers. The zetas are plain numbers, so that each block makes its element.
-fn unstage(array: &mut [u64], zetas: &[u64; 64], h: usize, t: usize)
-    requires coefficients { Coefficients 64 array.old }
-    requires zetas_value { (zetas.now ≡ tab 64 zeta_inv) × (h * (t + t) ≡ 64) }
-    ensures { (array.new ≡ backward h t array.old) × Coefficients 64 array.new }
-{
-    for i in 0..h {
-        let zeta = BFieldElement::new(zetas[h + i]);
-        unbutterflies(array, i * (t + t), t, zeta);
-    }
-}
-
-fn unstages(array: &mut [u64], zetas: &[u64; 64])
-    requires { Coefficients 64 array.old × (zetas.now ≡ tab 64 zeta_inv) }
+fn unstages(array: &mut [u64], backward: &Backward)
+    requires { Coefficients 64 array.old }
     ensures { (array.new ≡ unscaled array.old) × Coefficients 64 array.new }
 {
-    unstage(array, zetas, 32, 1);
-    unstage(array, zetas, 16, 2);
-    unstage(array, zetas, 8, 4);
-    unstage(array, zetas, 4, 8);
-    unstage(array, zetas, 2, 16);
-    unstage(array, zetas, 1, 32);
+    stage(array, backward, 32, 1);
+    stage(array, backward, 16, 2);
+    stage(array, backward, 8, 4);
+    stage(array, backward, 4, 8);
+    stage(array, backward, 2, 16);
+    stage(array, backward, 1, 32);
+}
+
+// Each number becomes what f makes of it and of its place.
+fn each_place<F: Fn(usize, u64) -> u64>(array: &mut [u64], f: F)
+    requires { (k : ℕ) → k < length array.old → F.pre f k (get_or array.old k 0) }
+    ensures { (length array.new ≡ length array.old)
+        × ((k : ℕ) → k < length array.old → F.post f k (get_or array.old k 0) (get_or array.new k 0)) }
+{
+    for (k, number) in array.iter_mut().enumerate() {
+        *number = f(k, *number);
+    }
 }
 
 fn scale(array: &mut [u64], factor: BFieldElement)
-    requires { (length array.old ≡ 64) × Good factor }
-    ensures { array.new ≡ scaled (num factor) array.old }
+    requires { length array.old ≡ 64 }
+    ensures { array.new ≡ scaled factor array.old }
 {
-    for i in 0..64 {
-        array[i] = factor.scaled(array[i]);
-    }
+    each_place(array, |_, x| factor.scaled(x));
 }
 
 pub fn coset_intt_noswap_64(array: &mut [u64])
     requires { Coefficients 64 array.old }
     ensures { array.new ≡ untransform array.old }
 {
-    let zetas = tables::POWERS_OF_PSI_INV_BITREVERSED;
-    unstages(array, &zetas);
+    unstages(array, &Backward::new());
     scale(array, BFieldElement::new(tables::N_INV));
-}
-
-fn copy(from: &[u64], to: &mut [u64])
-    requires { length from.now ≡ length to.old }
-    ensures { to.new ≡ from.now }
-{
-    for i in 0..to.len() {
-        to[i] = from[i];
-    }
 }
 
 // Of any number of coefficients: 64 for a ring element, 256 for a vector of four.
@@ -160,9 +130,7 @@ pub fn add_assign(lhs: &mut [u64], rhs: &[u64])
     requires { Coefficients (length lhs.old) lhs.old × Coefficients (length lhs.old) rhs.now }
     ensures { lhs.new ≡ plus (length lhs.old) lhs.old rhs.now }
 {
-    for i in 0..lhs.len() {
-        lhs[i] = field::add_mod_p(lhs[i], rhs[i]);
-    }
+    each_place(lhs, |k, x| field::add_mod_p(x, rhs[k]));
 }
 
 // The products of the entries of two transformed elements.
@@ -170,9 +138,7 @@ pub fn hadamard_assign(lhs: &mut [u64], rhs: &[u64])
     requires { Coefficients 64 lhs.old × Coefficients 64 rhs.now }
     ensures { lhs.new ≡ hadamard lhs.old rhs.now }
 {
-    for i in 0..64 {
-        lhs[i] = BFieldElement::new(lhs[i]).scaled(rhs[i]);
-    }
+    each_place(lhs, |k, x| BFieldElement::new(x).scaled(rhs[k]));
 }
 
 // The product in the ring, through the transforms.
@@ -181,10 +147,11 @@ pub fn multiply(lhs: &[u64], rhs: &[u64], out: &mut [u64])
     ensures { out.new ≡ product lhs.now rhs.now }
 {
     let mut other = [0u64; 64];
-    copy(lhs, out);
-    copy(rhs, &mut other);
-    coset_ntt_noswap_64(out);
-    coset_ntt_noswap_64(&mut other);
+    let forward = Forward::new();
+    out.copy_from_slice(lhs);
+    other.copy_from_slice(rhs);
+    stages(out, &forward);
+    stages(&mut other, &forward);
     hadamard_assign(out, &other);
     coset_intt_noswap_64(out);
 }
@@ -193,26 +160,14 @@ pub fn add(lhs: &[u64], rhs: &[u64], out: &mut [u64])
     requires { Coefficients 64 lhs.now × Coefficients 64 rhs.now × (length out.old ≡ 64) }
     ensures { out.new ≡ plus 64 lhs.now rhs.now }
 {
-    for i in 0..64 {
-        out[i] = field::add_mod_p(lhs[i], rhs[i]);
-    }
+    each_place(out, |k, _| field::add_mod_p(lhs[k], rhs[k]));
 }
 
 pub fn sub(lhs: &[u64], rhs: &[u64], out: &mut [u64])
     requires { Coefficients 64 lhs.now × Coefficients 64 rhs.now × (length out.old ≡ 64) }
     ensures { out.new ≡ minus 64 lhs.now rhs.now }
 {
-    for i in 0..64 {
-        out[i] = field::sub_mod_p(lhs[i], rhs[i]);
-    }
-}
-
-// The sum with one product more: place p of a vector times place q of a matrix.
-fn plus_place(s: SumOfProducts, vector: &[u64], p: usize, matrix: &[u64], q: usize) -> SumOfProducts
-    requires { (carries s < 2 ^ 64 - 1) × (p < length vector.now) × (q < length matrix.now) }
-    ensures { (amount result ≡ amount s + get_or vector.now p 0 * get_or matrix.now q 0) × (carries result ≤ carries s + 1) }
-{
-    field::plus_product(s, vector[p], matrix[q])
+    each_place(out, |k, _| field::sub_mod_p(lhs[k], rhs[k]));
 }
 
 // Place k of four elements times the coefficients of a matrix that stand at at, at + step, at + 2 step and at + 3 step, added
@@ -225,14 +180,15 @@ fn combined(vector: &[u64], k: usize, matrix: &[u64], at: usize, step: usize) ->
         + get_or vector.now (192 + k) 0 * get_or matrix.now (at + 3 * step) 0) % P }
 {
     let a = field::first_product(vector[k], matrix[at]);
-    let b = plus_place(a, vector, 64 + k, matrix, at + step);
-    let c = plus_place(b, vector, 128 + k, matrix, at + 2 * step);
-    let d = plus_place(c, vector, 192 + k, matrix, at + 3 * step);
+    let b = field::plus_product(a, vector[64 + k], matrix[at + step]);
+    let c = field::plus_product(b, vector[128 + k], matrix[at + 2 * step]);
+    let d = field::plus_product(c, vector[192 + k], matrix[at + 3 * step]);
     field::sum_mod_p(d)
 }
 
 // A vector of four ring elements times a matrix: element e of out is the sum over q of vector element q times matrix element
 // e·row + q·step.
+// Stays: with `chunks_exact_mut(64).enumerate()` `returns` stays open, since nothing is kept of what it lends.
 fn vector_times(
     vector: &[u64],
     matrix: &[u64],
@@ -245,10 +201,14 @@ fn vector_times(
     requires step_in_bounds { (count * row + 3 * step + 1) * 64 ≤ length matrix.now + row * 64 }
     ensures { out.new ≡ flat count (λ e. dot 4 (cell vector.now) (λ q. cell matrix.now (e * row + q * step))) }
 {
-    'elements: for e in 0..count {
-        'places: for k in 0..64 {
-            out[e * 64 + k] = combined(vector, k, matrix, e * row * 64 + k, step * 64);
-        }
+    for e in 0..count {
+        let start = e * 64;
+        let end = start + 64;
+        let first = e * row * 64;
+        each_place(
+            &mut out[start..end],
+            |k, _| combined(vector, k, matrix, first + k, step * 64),
+        );
     }
 }
 

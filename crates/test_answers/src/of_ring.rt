@@ -1,114 +1,43 @@
 // Questions on the ring and on matrices.
+ghost use Rattle.std.specs.Prelude.{◌≡◌, ◌^◌, ◌<◌, length};
 ghost use Rattle.field.specs.Field.{Coefficients};
 
-const NTT: u64 = 0x6e74_7420;
-
-const INTT: u64 = 0x696e_7474;
-
-const RADD: u64 = 0x7261_6464;
-
-const RSUB: u64 = 0x7273_7562;
-
-const RMUL: u64 = 0x726d_756c;
-
-const HADA: u64 = 0x6861_6461;
-
-const MCOL: u64 = 0x6d63_6f6c;
-
-const RMAT: u64 = 0x726d_6174;
-
-const RCOL: u64 = 0x7263_6f6c;
+use test_lines::Numbers;
 
 // One ring element.
-fn answer_transform(rt: &HostRuntime, op: u64) {
+pub fn in_place<F: Fn(&mut [u64])>(rt: &HostRuntime, call: F)
+    requires { (a : _) → Coefficients 64 a.now → F.pre call a }
+{
     let mut a = [0u64; 64];
     test_lines::read_numbers(rt, &mut a);
-    if op == NTT {
-        ring::coset_ntt_noswap_64(&mut a);
-        test_lines::tell_all(rt, &a);
-    } else {
-        ring::coset_intt_noswap_64(&mut a);
-        test_lines::tell_all(rt, &a);
-    }
+    call(&mut a);
+    test_lines::tell(rt, Numbers(&a));
 }
 
-fn tell_pair(rt: &HostRuntime, op: u64, a: &[u64], b: &[u64])
-    requires { Coefficients 64 a.now × Coefficients 64 b.now }
-{
-    let mut out = [0u64; 64];
-    if op == RADD {
-        ring::add(a, b, &mut out);
-        test_lines::tell_all(rt, &out);
-    } else if op == RSUB {
-        ring::sub(a, b, &mut out);
-        test_lines::tell_all(rt, &out);
-    } else {
-        ring::multiply(a, b, &mut out);
-        test_lines::tell_all(rt, &out);
-    }
-}
-
-// Two ring elements.
-fn answer_pair(rt: &HostRuntime, op: u64) {
+// Two ring elements, into the first.
+pub fn hadamard(rt: &HostRuntime) {
     let mut a = [0u64; 64];
     let mut b = [0u64; 64];
     test_lines::read_numbers(rt, &mut a);
     test_lines::read_numbers(rt, &mut b);
-    if op == HADA {
-        ring::hadamard_assign(&mut a, &b);
-        test_lines::tell_all(rt, &a);
-    } else {
-        tell_pair(rt, op, &a, &b);
-    }
+    ring::hadamard_assign(&mut a, &b);
+    test_lines::tell(rt, Numbers(&a));
 }
 
-// A matrix and a column.
-fn answer_column(rt: &HostRuntime) {
-    let mut g = [0u64; 1024];
-    let mut v = [0u64; 256];
-    let mut out = [0u64; 256];
-    test_lines::read_numbers(rt, &mut g);
-    test_lines::read_numbers(rt, &mut v);
-    ring::matrix_times_column(&g, &v, &mut out);
-    test_lines::tell_all(rt, &out);
-}
-
-// A row and a matrix.
-fn answer_row(rt: &HostRuntime) {
-    let mut v = [0u64; 256];
-    let mut g = [0u64; 1024];
-    let mut out = [0u64; 256];
-    test_lines::read_numbers(rt, &mut v);
-    test_lines::read_numbers(rt, &mut g);
-    ring::row_times_matrix(&v, &g, &mut out);
-    test_lines::tell_all(rt, &out);
-}
-
-// A row and a column.
-fn answer_single(rt: &HostRuntime) {
-    let mut u = [0u64; 256];
-    let mut v = [0u64; 256];
-    let mut out = [0u64; 64];
-    test_lines::read_numbers(rt, &mut u);
-    test_lines::read_numbers(rt, &mut v);
-    ring::row_times_column(&u, &v, &mut out);
-    test_lines::tell_all(rt, &out);
-}
-
-// False where the word is none of these.
-pub fn answer(rt: &HostRuntime, op: u64) -> bool {
-    if op == NTT || op == INTT {
-        answer_transform(rt, op);
-    } else if op == RADD || op == RSUB || op == RMUL || op == HADA {
-        answer_pair(rt, op);
-    } else if op == MCOL {
-        answer_column(rt);
-    } else if op == RMAT {
-        answer_row(rt);
-    } else if op == RCOL {
-        answer_single(rt);
-    } else {
-        return false;
-    }
-    true
+// Operands of M and N coefficients, and an answer of K.
+pub fn two<const M: usize, const N: usize, const K: usize, F: Fn(&[u64], &[u64], &mut [u64])>(
+    rt: &HostRuntime,
+    call: F,
+)
+    requires sizes { (M < 2 ^ 32) × (N < 2 ^ 32) × (K < 2 ^ 32) }
+    requires callable { (a b out : _) → Coefficients M a.now → Coefficients N b.now → length out.now ≡ K
+        → F.pre call a b out }
+{
+    let mut a = [0u64; M];
+    let mut b = [0u64; N];
+    let mut out = [0u64; K];
+    test_lines::read_numbers(rt, &mut a);
+    test_lines::read_numbers(rt, &mut b);
+    call(&a, &b, &mut out);
+    test_lines::tell(rt, Numbers(&out));
 }

@@ -1,64 +1,47 @@
 // The job call.
-use crate::arguments::Bytes;
-use crate::question::{Place, Question};
+use crate::arguments::Item;
+use crate::question::Question;
 use crate::{arguments, of_kem, tell};
+use std::alloc::{AllocError, Global};
 
-const JOBB: u64 = 0x6a6f_6262;
-
-const JOBE: u64 = 0x6a6f_6265;
-
-const JOBO: u64 = 0x6a6f_626f;
-
-fn put_byte(s: Bytes, place: Place) -> Bytes {
-    let mut t = s;
-    let at = place.index;
-    if place.argument == 1 && at < 9217 {
-        t[at] = (place.value % 256) as u8;
+// Any bytes, with the question's places.
+pub fn drawn(alloc: Global, q: &Question) -> Result<Vec<u8>, AllocError> {
+    let mut job = arguments::bytes(alloc, q.first)?;
+    for place in q.places {
+        if place.argument == 1 && place.index < job.len() {
+            job[place.index] = (place.value % 256) as u8;
+        }
     }
-    t
+    Ok(job)
 }
 
-// A kind, and what follows.
-fn job_of(kind: u8, rest: Bytes) -> Bytes {
-    arguments::joined([kind; 9217], 1, rest)
+// A job of sealing.
+pub fn enc(alloc: Global, q: &Question) -> Result<Vec<u8>, AllocError> {
+    let mut public = of_kem::public_key(alloc, q)?;
+    public.truncate(2080);
+    let mut randomness = [0u8; 32];
+    arguments::draw_bytes(&mut randomness, q.second.seed);
+    let mut job = Vec::new(alloc);
+    job.push(2)?;
+    job.extend_from_slice(&public)?;
+    job.extend_from_slice(&randomness)?;
+    Ok(job)
 }
 
-// 32 bytes drawn from the seed, and then zeros.
-fn randomness(seed: u64) -> Bytes {
-    arguments::joined(arguments::bytes(seed), 32, [0u8; 9217])
+// A job of opening.
+pub fn dec(alloc: Global, q: &Question) -> Result<Vec<u8>, AllocError> {
+    let mut job = Vec::new(alloc);
+    job.push(3)?;
+    job.extend_from_slice(&of_kem::secret_key(q.first.seed))?;
+    job.extend_from_slice(&arguments::packed(alloc, &of_kem::sealed(alloc, q)?)?)?;
+    Ok(job)
 }
 
-fn job(q: Question) -> Bytes {
-    if q.call == JOBB {
-        put_byte(put_byte(arguments::bytes(q.first.seed), q.one), q.other)
-    } else if q.call == JOBE {
-        job_of(
-            2,
-            arguments::joined(of_kem::public_key(q), 2080, randomness(q.second.seed)),
-        )
-    } else {
-        let ciphertext = arguments::packed(of_kem::sealed(q));
-        job_of(
-            3,
-            arguments::joined(of_kem::secret_key(q.first.seed), 64, ciphertext),
-        )
-    }
-}
-
-fn answer_lent(rt: &HostRuntime, q: Question, job: &[u8]) {
-    let n = q.third.length % 9218;
-    let mut out = arguments::bytes(q.third.seed);
-    let size = galmuriec::job(job, &mut out[0..n]);
-    tell::written(rt, size, out, n, q.third.seed);
-}
-
-// False where the word is not of this call.
-pub fn answer(rt: &HostRuntime, q: Question) -> bool {
-    if q.call != JOBB && q.call != JOBE && q.call != JOBO {
-        return false;
-    }
-    let n = q.first.length % 9218;
-    let job = job(q);
-    answer_lent(rt, q, &job[0..n]);
-    true
+// The answer to a job, cut or with zeros behind to the length that the question says.
+pub fn answer(rt: &HostRuntime, q: &Question, mut job: Vec<u8>) -> Result<(), AllocError> {
+    job.resize(q.first.bytes(), 0)?;
+    let mut out = u8::output(rt.alloc(), q.third)?;
+    let size = out.lend(|out| galmuriec::job(&job, out));
+    tell::written(rt, size, &out);
+    Ok(())
 }

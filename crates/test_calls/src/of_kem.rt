@@ -1,223 +1,140 @@
 // The kem's calls.
-use crate::arguments::{Bytes, Numbers};
+use crate::arguments::{Item, MOST_NUMBERS};
 use crate::question::Question;
 use crate::{arguments, tell};
-use refusals::Answer;
-
-const KGEN: u64 = 0x6b67_656e;
-
-const ENCB: u64 = 0x656e_6362;
-
-const ENCN: u64 = 0x656e_636e;
-
-const DECB: u64 = 0x6465_6362;
-
-const DECN: u64 = 0x6465_636e;
-
-const OPNB: u64 = 0x6f70_6e62;
-
-const OPNN: u64 = 0x6f70_6e6e;
-
-const CLER: u64 = 0x636c_6572;
-
-// ---- calls alone, so that what they promise is carried through no longer function's proof
-fn keygen(randomness: &[u8], secret: &mut [u8], public: &mut [u8]) -> Answer {
-    galmuriec::kem::keygen(randomness, secret, public)
-}
-
-fn enc(public: &[u8], randomness: &[u8], shared: &mut [u8], ciphertext: &mut [u8]) -> Answer {
-    galmuriec::kem::enc(public, randomness, shared, ciphertext)
-}
-
-fn enc_numbers(
-    public: &[u8],
-    randomness: &[u8],
-    shared: &mut [u8],
-    ciphertext: &mut [u64],
-) -> Answer {
-    galmuriec::kem::enc_numbers(public, randomness, shared, ciphertext)
-}
+use galmuriec::kem;
+use refusals::Refusal;
+use std::alloc::{AllocError, Global};
 
 // ---- keys and packets
 // 32 bytes, and then coefficients by the draws that follow.
-pub fn public_key(q: Question) -> Bytes {
+pub fn public_key(alloc: Global, q: &Question) -> Result<Vec<u8>, AllocError> {
     let mut seed = [0u8; 32];
     let next = arguments::draw_bytes(&mut seed, q.first.seed);
-    let ga = arguments::coefficients(q, 1, next);
-    arguments::joined(arguments::bytes(q.first.seed), 32, arguments::packed(ga))
+    let ga = arguments::coefficients(alloc, q, 1, next, MOST_NUMBERS)?;
+    let mut key = Vec::new(alloc);
+    key.extend_from_slice(&seed)?;
+    key.extend_from_slice(&arguments::packed(alloc, &ga)?)?;
+    Ok(key)
 }
 
 // The keys of 32 bytes drawn from the seed.
 fn make_keys(seed: u64, secret: &mut [u8], public: &mut [u8]) {
     let mut randomness = [0u8; 32];
     arguments::draw_bytes(&mut randomness, seed);
-    keygen(&randomness, secret, public);
+    let _ = kem::keygen(&randomness, secret, public);
 }
 
-// A secret key, and then zeros.
-pub fn secret_key(seed: u64) -> Bytes {
-    let mut secret = [0u8; 9217];
+pub fn secret_key(seed: u64) -> [u8; 64] {
+    let mut secret = [0u8; 64];
     let mut public = [0u8; 2080];
-    make_keys(seed, &mut secret[0..64], &mut public);
+    make_keys(seed, &mut secret, &mut public);
     secret
 }
 
-// A packet sealed for the public key with 32 bytes drawn from the seed.
-fn seal_packet(public: &[u8], seed: u64, ciphertext: &mut [u64]) {
-    let mut randomness = [0u8; 32];
-    let mut shared = [0u8; 32];
-    arguments::draw_bytes(&mut randomness, seed);
-    enc_numbers(public, &randomness, &mut shared, ciphertext);
-}
-
-// A packet sealed for the keys of a seed, and then zeros.
-fn packet(keys: u64, seed: u64) -> Numbers {
+// A packet sealed for the keys of the fourth seed with 32 bytes drawn from the second.
+fn packet(q: &Question) -> [u64; 320] {
     let mut secret = [0u8; 64];
     let mut public = [0u8; 2080];
-    let mut ciphertext = [0u64; 1025];
-    make_keys(keys, &mut secret, &mut public);
-    seal_packet(&public, seed, &mut ciphertext[0..320]);
+    let mut randomness = [0u8; 32];
+    let mut shared = [0u8; 32];
+    let mut ciphertext = [0u64; 320];
+    make_keys(q.fourth.seed, &mut secret, &mut public);
+    arguments::draw_bytes(&mut randomness, q.second.seed);
+    let _ = kem::enc_numbers(&public, &randomness, &mut shared, &mut ciphertext);
     ciphertext
 }
 
-// A sealed packet with the question's places.
-pub fn sealed(q: Question) -> Numbers {
-    arguments::amended(packet(q.fourth.seed, q.second.seed), q, 2)
+// A sealed packet with the question's places, and then zeros.
+pub fn sealed(alloc: Global, q: &Question) -> Result<Vec<u64>, AllocError> {
+    let mut numbers = Vec::new(alloc);
+    numbers.extend_from_slice(&packet(q))?;
+    numbers.resize(MOST_NUMBERS, 0)?;
+    arguments::amend(&mut numbers, q, 2);
+    Ok(numbers)
 }
 
 // ---- answers
-fn answer_keygen(rt: &HostRuntime, q: Question, randomness: &[u8]) {
-    let m = q.second.length % 9218;
-    let n = q.third.length % 9218;
-    let mut secret = arguments::bytes(q.second.seed);
-    let mut public = arguments::bytes(q.third.seed);
-    let answer = keygen(randomness, &mut secret[0..m], &mut public[0..n]);
-    tell::filled_two(
-        rt,
-        answer,
-        secret,
-        m,
-        q.second.seed,
-        public,
-        n,
-        q.third.seed,
-    );
+pub fn keygen(rt: &HostRuntime, q: &Question) -> Result<(), AllocError> {
+    let alloc = rt.alloc();
+    let randomness = arguments::bytes(alloc, q.first)?;
+    let mut secret = u8::output(alloc, q.second)?;
+    let mut public = u8::output(alloc, q.third)?;
+    let answer = secret.lend_both(&mut public, |secret, public| {
+        kem::keygen(&randomness, secret, public)
+    });
+    tell::filled(rt, answer, &(&secret, &public));
+    Ok(())
 }
 
-fn answer_enc(rt: &HostRuntime, q: Question, public: &[u8], randomness: &[u8]) {
-    let m = q.third.length % 9218;
-    let n = q.fourth.length % 9218;
-    let mut shared = arguments::bytes(q.third.seed);
-    let mut ciphertext = arguments::bytes(q.fourth.seed);
-    let answer = enc(public, randomness, &mut shared[0..m], &mut ciphertext[0..n]);
-    tell::filled_two(
-        rt,
-        answer,
-        shared,
-        m,
-        q.third.seed,
-        ciphertext,
-        n,
-        q.fourth.seed,
-    );
+// With a ciphertext of bytes or of numbers.
+pub fn enc<T: Item, F: Fn(&[u8], &[u8], &mut [u8], &mut [T]) -> Result<(), Refusal>>(
+    rt: &HostRuntime,
+    q: &Question,
+    call: F,
+) -> Result<(), AllocError>
+    requires { F.IsAlwaysCallable call }
+{
+    let alloc = rt.alloc();
+    let mut public = public_key(alloc, q)?;
+    public.resize(q.first.bytes(), 0)?;
+    let randomness = arguments::bytes(alloc, q.second)?;
+    let mut shared = u8::output(alloc, q.third)?;
+    let mut ciphertext = T::output(alloc, q.fourth)?;
+    let answer = shared.lend_both(&mut ciphertext, |shared, ciphertext| {
+        call(&public, &randomness, shared, ciphertext)
+    });
+    tell::filled(rt, answer, &(&shared, &ciphertext));
+    Ok(())
 }
 
-fn answer_enc_numbers(rt: &HostRuntime, q: Question, public: &[u8], randomness: &[u8]) {
-    let m = q.third.length % 9218;
-    let n = q.fourth.length % 1026;
-    let mut shared = arguments::bytes(q.third.seed);
-    let before = arguments::output(q.fourth.seed);
-    let mut ciphertext = before;
-    let answer = enc_numbers(public, randomness, &mut shared[0..m], &mut ciphertext[0..n]);
-    tell::filled_both(rt, answer, shared, m, q.third.seed, before, ciphertext, n);
+// What is lent to the calls that open.
+#[derive(Drop)]
+pub struct Opening {
+    secret: Vec<u8>,
+    ciphertext: Vec<u64>,
 }
 
-fn open(call: u64, secret: &[u8], bytes: &[u8], numbers: &[u64], shared: &mut [u8]) -> Answer {
-    if call == DECB || call == OPNB {
-        galmuriec::kem::dec(secret, bytes, shared)
-    } else {
-        galmuriec::kem::dec_numbers(secret, numbers, shared)
+impl Opening {
+    // Drawn from the seeds, with the question's places.
+    pub fn drawn(alloc: Global, q: &Question) -> Result<Opening, AllocError> {
+        Ok(Opening {
+            secret: arguments::bytes(alloc, q.first)?,
+            ciphertext: arguments::coefficients(alloc, q, 2, q.second.seed, MOST_NUMBERS)?,
+        })
+    }
+
+    // A secret key and a sealed packet.
+    pub fn made(alloc: Global, q: &Question) -> Result<Opening, AllocError> {
+        let mut secret = Vec::new(alloc);
+        secret.extend_from_slice(&secret_key(q.first.seed))?;
+        secret.resize(q.first.bytes(), 0)?;
+        let ciphertext = sealed(alloc, q)?;
+        Ok(Opening { secret, ciphertext })
+    }
+
+    pub fn dec(&self, rt: &HostRuntime, q: &Question) -> Result<(), AllocError> {
+        let mut bytes = arguments::packed(rt.alloc(), &self.ciphertext)?;
+        bytes.resize(q.second.bytes(), 0)?;
+        let mut shared = u8::output(rt.alloc(), q.third)?;
+        let answer = shared.lend(|shared| kem::dec(&self.secret, &bytes, shared));
+        tell::filled(rt, answer, &shared);
+        Ok(())
+    }
+
+    pub fn dec_numbers(self, rt: &HostRuntime, q: &Question) -> Result<(), AllocError> {
+        let mut numbers = self.ciphertext;
+        numbers.truncate(q.second.numbers());
+        let mut shared = u8::output(rt.alloc(), q.third)?;
+        let answer = shared.lend(|shared| kem::dec_numbers(&self.secret, &numbers, shared));
+        tell::filled(rt, answer, &shared);
+        Ok(())
     }
 }
 
-fn answer_open(rt: &HostRuntime, q: Question, secret: &[u8], bytes: &[u8], numbers: &[u64]) {
-    let n = q.third.length % 9218;
-    let mut shared = arguments::bytes(q.third.seed);
-    let answer = open(q.call, secret, bytes, numbers, &mut shared[0..n]);
-    tell::filled_bytes(rt, answer, shared, n, q.third.seed);
-}
-
-fn answer_dec(rt: &HostRuntime, q: Question, secret: &[u8], ciphertext: Numbers) {
-    let m = q.second.length % 9218;
-    let n = q.second.length % 1026;
-    let bytes = arguments::packed(ciphertext);
-    answer_open(rt, q, secret, &bytes[0..m], &ciphertext[0..n]);
-}
-
-fn answer_clear(rt: &HostRuntime, q: Question) {
-    let n = q.first.length % 9218;
-    let mut secret = arguments::bytes(q.first.seed);
-    let answer = galmuriec::kem::clear(&mut secret[0..n]);
-    tell::filled_bytes(rt, answer, secret, n, q.first.seed);
-}
-
-// With the randomness lent too.
-fn answer_sealing(rt: &HostRuntime, q: Question, public: &[u8]) {
-    let n = q.second.length % 9218;
-    let randomness = arguments::bytes(q.second.seed);
-    if q.call == ENCB {
-        answer_enc(rt, q, public, &randomness[0..n]);
-    } else {
-        answer_enc_numbers(rt, q, public, &randomness[0..n]);
-    }
-}
-
-// With the first argument lent.
-fn answer_lent(rt: &HostRuntime, q: Question, first: &[u8]) {
-    let call = q.call;
-    if call == KGEN {
-        answer_keygen(rt, q, first);
-    } else if call == ENCB || call == ENCN {
-        answer_sealing(rt, q, first);
-    } else if call == DECB || call == DECN {
-        answer_dec(rt, q, first, arguments::coefficients(q, 2, q.second.seed));
-    } else {
-        answer_dec(rt, q, first, sealed(q));
-    }
-}
-
-fn first(q: Question) -> Bytes {
-    if q.call == ENCB || q.call == ENCN {
-        public_key(q)
-    } else if q.call == OPNB || q.call == OPNN {
-        secret_key(q.first.seed)
-    } else {
-        arguments::bytes(q.first.seed)
-    }
-}
-
-fn answer_bytes(rt: &HostRuntime, q: Question) {
-    let n = q.first.length % 9218;
-    let bytes = first(q);
-    answer_lent(rt, q, &bytes[0..n]);
-}
-
-// False where the word is of none of these calls.
-pub fn answer(rt: &HostRuntime, q: Question) -> bool {
-    let call = q.call;
-    if call == KGEN
-        || call == ENCB
-        || call == ENCN
-        || call == DECB
-        || call == DECN
-        || call == OPNB
-        || call == OPNN
-    {
-        answer_bytes(rt, q);
-    } else if call == CLER {
-        answer_clear(rt, q);
-    } else {
-        return false;
-    }
-    true
+pub fn clear(rt: &HostRuntime, q: &Question) -> Result<(), AllocError> {
+    let mut secret = u8::output(rt.alloc(), q.first)?;
+    let answer = secret.lend(kem::clear);
+    tell::filled(rt, answer, &secret);
+    Ok(())
 }

@@ -1,4 +1,5 @@
-// A question: the call's word, four arguments and two places that are set.
+// A question: four arguments and two places that are set.
+// An argument's length may be anything of four digits: what is lent is the rest of it by one more than the most.
 #[derive(Clone, Copy)]
 pub struct Argument {
     pub length: usize,
@@ -14,13 +15,11 @@ pub struct Place {
 
 #[derive(Clone, Copy)]
 pub struct Question {
-    pub call: u64,
     pub first: Argument,
     pub second: Argument,
     pub third: Argument,
     pub fourth: Argument,
-    pub one: Place,
-    pub other: Place,
+    pub places: [Place; 2],
 }
 
 fn read_argument(rt: &HostRuntime) -> Argument {
@@ -38,15 +37,13 @@ fn read_place(rt: &HostRuntime) -> Place {
     }
 }
 
-// All of a question but the line's end; its word was read.
-pub fn read(rt: &HostRuntime, call: u64) -> Question {
+// All of a question but its name and the line's end.
+pub fn read(rt: &HostRuntime) -> Question {
     Question {
-        call: call,
         first: read_argument(rt),
         second: read_argument(rt),
         third: read_argument(rt),
         fourth: read_argument(rt),
-        one: read_place(rt),
-        other: read_place(rt),
+        places: [read_place(rt), read_place(rt)],
     }
 }

@@ -1,15 +1,9 @@
--- `pack` fills its output with the bytes, eight a turn.
+-- `pack` has filled its output with the bytes of i numbers.
 use native.Mathlib.Omega.{arith}
-use Prim.Native.Nat.{ℕ, ◌*◌}
-use mathlib.Core.Path.{subst}
-use lib.ListN.{length}
-use Rattle.laws.proofs.Updates.{Filled, mapped_all}
-use Rattle.codec.specs.Layout.{byte, bytes}
+use Rattle.laws.proofs.Updates.{mapped_end}
+use Rattle.codec.specs.Layout.{bytes}
 use Rattle.codec.proofs.pack.Goals as goal
 
 pub returns : goal.returns
 unfolding bytes
-returns c =
-    let a = c.args in
-    mapped_all _ (8 * length a.w.now) a.out.now c.loop-i.out (omega arith)
-    (subst (λ (k : ℕ). Filled (byte a.w.now) k a.out.now c.loop-i.out) (omega arith) c.loop-i.invariant.2)
+returns c = mapped_end _ _ _ _ _ (omega arith) (omega arith) c.loop-i.invariant

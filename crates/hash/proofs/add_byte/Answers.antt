@@ -6,4 +6,4 @@ use Rattle.hash.proofs.add_byte.Goals as goal
 pub returns : goal.returns
 returns c =
     let args = c.args in
-    xor_stored args.lanes.now args.at args.b c.wide.result c.wide.ensures.0 (omega arith)
+    xor_stored args.lanes.now args.at args.b c.from.result c.from.ensures (omega arith)

@@ -1,14 +1,9 @@
--- `copy_state` has copied i bytes, whole lanes, after each turn.
-use Prim.Native.Nat.{◌+◌, ◌-◌, ◌≤◌, ◌%◌}
-use mathlib.Core.Path.{◌≡◌}
-use lib.ListN.{length}
+-- `copy_state` has copied i lanes after i turns.
+use Prim.Native.Nat.{◌+◌, ◌*◌}
 use Rattle.laws.proofs.Updates.{Filled}
 use Rattle.keccak.specs.Pairs.{state}
 use Rattle.hash.specs.Running.{byte_of}
 use Rattle.hash.proofs.copy_state.Given as goal
 
 abbrev pub invariant-loop-i : goal.invariant-loop-i
-invariant-loop-i l = (l.i ≤ length l.initial.out) × (l.i % 8 ≡ 0) × Filled (λ k. byte_of (state l.s l.j) (0 + k)) l.i l.initial.out l.out
-
-abbrev pub decreases-loop-i : goal.decreases-loop-i
-decreases-loop-i l = length l.initial.out - l.i
+invariant-loop-i l = Filled (λ k. byte_of (state l.s l.j) (0 + k)) (8 * l.i) l.initial.out l.out

@@ -3,8 +3,8 @@ use native.Mathlib.Omega.{arith}
 use Rattle.hash.proofs.Steps.{alike_turned}
 use Rattle.hash.proofs.next_block.Goals as goal
 
-pub returns-then-shorter-gt0-clause-alike : goal.returns-then-shorter-gt0-clause-alike
-returns-then-shorter-gt0-clause-alike c = alike_turned _ _ _ _ (omega arith) (omega arith) c.permute_two.ensures.left
+pub returns-then-min-gt0-clause-alike : goal.returns-then-min-gt0-clause-alike
+returns-then-min-gt0-clause-alike c = alike_turned _ _ _ _ (omega arith) (omega arith) c.permute_two.ensures.left
 
-pub returns-then-shorter-gt0-clause-alike_2 : goal.returns-then-shorter-gt0-clause-alike_2
-returns-then-shorter-gt0-clause-alike_2 c = alike_turned _ _ _ _ (omega arith) (omega arith) c.permute_two.ensures.right
+pub returns-then-min-gt0-clause-alike_2 : goal.returns-then-min-gt0-clause-alike_2
+returns-then-min-gt0-clause-alike_2 c = alike_turned _ _ _ _ (omega arith) (omega arith) c.permute_two.ensures.right

@@ -6,5 +6,5 @@ use Rattle.hash.proofs.sha3_256.Goals as goal
 
 pub returns : goal.returns
 returns c =
-    c.sponge.ensures ∙ ap (hashed 136 6 c.args.message.now) c.requires
+    c.put_hash.ensures ∙ ap (hashed 136 6 c.args.message.now) c.requires
     ∙ hashed_sha3_256 _ (λ i. (c.type_inv.message i).fits)

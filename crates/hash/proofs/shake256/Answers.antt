@@ -5,4 +5,4 @@ use Rattle.hash.proofs.shake256.Goals as goal
 
 pub returns : goal.returns
 returns c =
-    c.sponge.ensures ∙ hashed-shake256 _ _ (λ i. (c.type_inv.message i).fits)
+    c.put_hash.ensures ∙ hashed-shake256 _ _ (λ i. (c.type_inv.message i).fits)

@@ -1,22 +1,40 @@
--- `squeeze_blocks` has drawn i bytes of both states, whole blocks.
-use borrow.Author.Rules.{rules}
+-- `squeeze_blocks` has drawn i blocks of both states.
 use native.Mathlib.Omega.{arith}
+use native.Mathlib.Nat.{add-sub_cancel_left, zero-mul}
+use Prim.Native.Nat.{ℕ, ◌+◌, ◌*◌, ◌/◌}
+use mathlib.Core.Path.{◌≡◌, ap, sym}
 use lib.ListN.{length-take, length-drop}
-use native.Mathlib.Nat.{add-sub_cancel_left}
-use Rattle.hash.proofs.Steps.{whole_none, whole_more, whole_length}
+use Rattle.hash.proofs.Steps.{whole_none, whole_at, whole_more, begun_whole, block_fits}
 use Rattle.hash.proofs.squeeze_blocks.Goals as goal
 
 pub loop-i-init : goal.loop-i-init
-loop-i-init c = (search rules, search rules, search rules, whole_none _ _ _, whole_none _ _ _)
+loop-i-init c =
+    let none = sym (zero-mul c.args.rate) in
+    record { left = whole_at none (whole_none _ _ _); right = whole_at none (whole_none _ _ _) }
 
 pub loop-i-preserved : goal.loop-i-preserved
 loop-i-preserved c =
+    let r = c.args.rate in
+    let i = c.loop-i.i in
     let pos = c.requires.0 in
-    let cut = add-sub_cancel_left c.loop-i.i c.args.rate in
-    let left =
-    whole_more _ _ _ _ _ _ _ pos c.loop-i.invariant.3 c.permute_two.ensures.left _ _ _ (omega arith) c.copy_state.ensures
-    (simp (length-take, length-drop) (omega arith)) cut in
-    let right =
-    whole_more _ _ _ _ _ _ _ pos c.loop-i.invariant.4 c.permute_two.ensures.right _ _ _ (omega arith) c.copy_state-in-loop-i.ensures
-    (simp (length-take, length-drop) (omega arith)) cut in
-    (omega arith, whole_length left, whole_length right, left, right)
+    let cut = add-sub_cancel_left (i * r) r in
+    let next : i * r + r ≡ (i + 1) * r = omega arith in
+    let fits = block_fits c.min.result r i c.loop-i-test.true in
+    record {
+      left = whole_at next
+          (whole_more _ _ _ _ _ _ _ pos c.loop-i.invariant.left c.permute_two.ensures.left _ _ _ (omega (arith, fits, c.min.ensures))
+          c.copy_state.ensures (simp (length-take, length-drop) (omega arith)) cut);
+      right = whole_at next
+          (whole_more _ _ _ _ _ _ _ pos c.loop-i.invariant.right c.permute_two.ensures.right _ _ _ (omega (arith, fits, c.min.ensures))
+          c.copy_state-in-loop-i.ensures (simp (length-take, length-drop) (omega arith)) cut);
+    }
+
+pub returns-clause-begun : goal.returns-clause-begun
+returns-clause-begun c =
+    let all : c.loop-i.i ≡ c.min.result / c.args.rate = omega (arith, c.loop-i-test.false, c.loop-i.auto.i-end) in
+    begun_whole (whole_at (ap (λ (k : ℕ). k * c.args.rate) all) c.loop-i.invariant.left)
+
+pub returns-clause-begun_2 : goal.returns-clause-begun_2
+returns-clause-begun_2 c =
+    let all : c.loop-i.i ≡ c.min.result / c.args.rate = omega (arith, c.loop-i-test.false, c.loop-i.auto.i-end) in
+    begun_whole (whole_at (ap (λ (k : ℕ). k * c.args.rate) all) c.loop-i.invariant.right)

@@ -3,4 +3,4 @@ use Rattle.job_calls.proofs.Fronts.{writes_ten}
 use Rattle.job_calls.proofs.refuse.Goals as goal
 
 pub returns : goal.returns
-returns c = search writes_ten
+returns c = writes_ten _ _ _ _ _ _ _ _ c.from-s.ensures c.to_le_bytes.ensures c.write.ensures

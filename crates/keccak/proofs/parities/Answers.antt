@@ -1,11 +1,9 @@
--- `parities` makes the five parities, one a turn.
-use native.Mathlib.Omega.{arith}
-use mathlib.Core.Path.{refl}
-use lib.ListN.{replicate}
-use Rattle.laws.proofs.Updates.{mapped_end}
+-- `parities` makes the five parities.
+use borrow.Author.Rules.{rules}
 use Rattle.keccak.specs.Lanes.{parities}
+use Rattle.keccak.proofs.Places.{five_of}
 use Rattle.keccak.proofs.parities.Goals as goal
 
 pub returns : goal.returns
 unfolding parities
-returns c = mapped_end _ 5 _ (replicate 5 0) _ (omega arith) refl c.loop-x.invariant.1
+returns c = five_of _ _ c.from_fn.ensures.items.long (search rules) (search rules) (search rules) (search rules) (search rules)

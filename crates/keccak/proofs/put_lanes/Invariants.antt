@@ -1,10 +1,7 @@
 -- `put_lanes` has put i lanes after i turns.
-use Prim.Native.Nat.{◌-◌, ◌≤◌}
+use Prim.Native.Nat.{◌≤◌}
 use Rattle.keccak.proofs.Interleaved.{Put}
 use Rattle.keccak.proofs.put_lanes.Given as goal
 
 abbrev pub invariant-loop-i : goal.invariant-loop-i
-invariant-loop-i l = (l.i ≤ 25) × Put l.j l.i l.a l.initial.s l.s
-
-abbrev pub decreases-loop-i : goal.decreases-loop-i
-decreases-loop-i l = 25 - l.i
+invariant-loop-i l = (l.i ≤ 25) × Put l.j l.i l.lane-items l.initial.s l.s

@@ -1,16 +1,12 @@
--- `dec` answers as it is judged, and then as opening does.
-use borrow.Author.Rules.{rules}
-use Rattle.refusals.proofs.Calls.{as_asked}
-use Rattle.kem_calls.proofs.Verdicts.{opens_done, opens_not}
+-- `dec` answers as it is judged, and then as opening the numbers does that the bytes hold.
+use Rattle.kem_calls.proofs.Verdicts.{key_as, opens_done, opens_not}
 use Rattle.kem_calls.proofs.dec.Goals as goal
 
-pub dec_bytes-requires : goal.dec_bytes-requires
-dec_bytes-requires c =
-    let good = as_asked _ _ c.in-Done.is c.judge_dec-v.ensures in
-    search rules
+pub returns-in_default : goal.returns-in_default
+returns-in_default c =
+    opens_not _ _ _ c.in_ok-judge_dec.ensures.answered (key_as _ _ _ _ c.unpack.ensures c.in_default.ensures)
 
-pub returns-then-dec_bytes : goal.returns-then-dec_bytes
-returns-then-dec_bytes c = search opens_done
-
-pub returns-else-dec_bytes : goal.returns-else-dec_bytes
-returns-else-dec_bytes c = search opens_not
+pub returns : goal.returns
+returns c =
+    opens_done _ _ _ _ _ c.in_ok-judge_dec.ensures.answered (key_as _ _ _ _ c.unpack.ensures c.in-Some.ensures)
+    c.copy_from_slice.ensures.after

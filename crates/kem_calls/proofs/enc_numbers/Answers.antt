@@ -1,10 +1,9 @@
--- `enc_numbers` answers as it is judged, and fills shared key and ciphertext where nothing is wrong.
+-- `enc_numbers`: the coefficients of a public key are those of its bytes.
 use borrow.Author.Rules.{rules}
-use Rattle.refusals.proofs.Calls.{as_asked}
 use Rattle.kem_calls.proofs.Verdicts.{ga-good}
 use Rattle.kem_calls.proofs.enc_numbers.Goals as goal
 
 pub enc-requires : goal.enc-requires
 enc-requires c =
-    let good = as_asked _ _ c.in-Done.is c.judge_enc-v.ensures in
+    let good = c.in_ok-judge_enc.ensures.as_asked in
     search (rules, ga-good)

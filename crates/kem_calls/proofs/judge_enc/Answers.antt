@@ -1,14 +1,10 @@
--- `judge_enc` judges as docs/SCHEME.md says: its steps are those of `judged`.
+-- The last step of `judge_enc` tells what `judged` does after those before it.
+use native.Mathlib.Omega.{arith}
 use Rattle.refusals.specs.Judgement.{judged}
+use Rattle.refusals.proofs.Steps.{next}
+use Rattle.refusals.proofs.Calls.{judges}
 use Rattle.kem_calls.proofs.judge_enc.Goals as goal
 
 pub returns : goal.returns
 unfolding judged
-returns c =
-    rw (
-      c.packed.ensures,
-      c.sized-4.ensures,
-      c.sized-3.ensures,
-      c.sized-2.ensures,
-      c.sized.ensures,
-    )
+returns c = judges _ _ (grind (arith, next))

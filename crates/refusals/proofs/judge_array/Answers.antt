@@ -1,7 +1,10 @@
--- `judge_array` judges one slice of coefficients as docs/SCHEME.md says: its steps are those of `judged`.
+-- The last step of `judge_array` tells what `judged` does after those before it.
+use native.Mathlib.Omega.{arith}
 use Rattle.refusals.specs.Judgement.{judged}
+use Rattle.refusals.proofs.Steps.{next}
+use Rattle.refusals.proofs.Calls.{judges}
 use Rattle.refusals.proofs.judge_array.Goals as goal
 
 pub returns : goal.returns
 unfolding judged
-returns c = rw (c.numbers.ensures, c.sized.ensures)
+returns c = judges _ _ (grind (arith, next))

@@ -1,14 +1,10 @@
--- `judge_operands` judges two slices of coefficients and a buffer as docs/SCHEME.md says: its steps are those of `judged`.
+-- The last step of `judge_operands` tells what `judged` does after those before it.
+use native.Mathlib.Omega.{arith}
 use Rattle.refusals.specs.Judgement.{judged}
+use Rattle.refusals.proofs.Steps.{next}
+use Rattle.refusals.proofs.Calls.{judges}
 use Rattle.refusals.proofs.judge_operands.Goals as goal
 
 pub returns : goal.returns
 unfolding judged
-returns c =
-    rw (
-      c.numbers-2.ensures,
-      c.numbers.ensures,
-      c.sized-3.ensures,
-      c.sized-2.ensures,
-      c.sized.ensures,
-    )
+returns c = judges _ _ (grind (arith, next))

@@ -1,7 +1,8 @@
--- `judge_value` judges one field value as docs/SCHEME.md says: its steps are those of `judged`.
+-- The step of `judge_value` tells what `judged` does.
 use Rattle.refusals.specs.Judgement.{judged}
+use Rattle.refusals.proofs.Calls.{judges}
 use Rattle.refusals.proofs.judge_value.Goals as goal
 
 pub returns : goal.returns
 unfolding judged
-returns c = rw c.value.ensures
+returns c = judges _ _ c.value.ensures

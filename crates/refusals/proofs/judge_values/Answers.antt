@@ -1,7 +1,10 @@
--- `judge_values` judges two field values as docs/SCHEME.md says: its steps are those of `judged`.
+-- The last step of `judge_values` tells what `judged` does after those before it.
+use native.Mathlib.Omega.{arith}
 use Rattle.refusals.specs.Judgement.{judged}
+use Rattle.refusals.proofs.Steps.{next}
+use Rattle.refusals.proofs.Calls.{judges}
 use Rattle.refusals.proofs.judge_values.Goals as goal
 
 pub returns : goal.returns
 unfolding judged
-returns c = rw (c.value-2.ensures, c.value.ensures)
+returns c = judges _ _ (grind (arith, next))

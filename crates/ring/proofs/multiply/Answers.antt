@@ -16,7 +16,7 @@ made a e = below_as e (transform-canonical _)
 
 pub hadamard_assign-requires : goal.hadamard_assign-requires
 hadamard_assign-requires c =
-    (made _ c.coset_ntt_noswap_64.ensures, made _ c.coset_ntt_noswap_64-2.ensures)
+    (made _ c.stages.ensures, made _ c.stages-2.ensures)
 
 pub coset_intt_noswap_64-requires : goal.coset_intt_noswap_64-requires
 coset_intt_noswap_64-requires c = below_as c.hadamard_assign.ensures (hadamard-canonical _ _)

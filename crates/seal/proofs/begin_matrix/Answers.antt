@@ -9,5 +9,5 @@ pub returns : goal.returns
 returns c =
     let made = c.derive_secret_vectors.ensures in
     let bytes = c.args.bytes.now in
-    let lent = length-take-le cut bytes (omega (arith, c.requires.1)) in
-    (begins bytes _ lent c.requires.1 c.shake256_start-stream.ensures made.0 made.1, made.2)
+    let lent = length-take-le cut bytes (omega (arith, c.told-bytes)) in
+    (begins bytes _ lent c.told-bytes c.of-stream.ensures made.0 made.1, made.2)

@@ -6,10 +6,9 @@ use Rattle.seal.proofs.Vectors.{told-canonical, addable, sum_of}
 use Rattle.seal.proofs.combine.Goals as goal
 
 pub add_assign-requires : goal.add_assign-requires
-add_assign-requires c =
-    addable c.matrix_times_column.ensures (matrix-canonical 4 4 1 _ _) c.requires.2
+add_assign-requires c = addable c.matrix_times_column.ensures (matrix-canonical 4 4 1 _ _) c.args.key.now.right.canonical
 
-pub returns : goal.returns
-returns c =
+pub invariant_of-ga : goal.invariant_of-ga
+invariant_of-ga c =
     let sum = sum_of _ c.add_assign.ensures c.matrix_times_column.ensures (matrix-canonical 4 4 1 _ _) in
-    (sum, told-canonical sum (plus-canonical vector_numbers _ _))
+    record { canonical = told-canonical sum (plus-canonical vector_numbers _ _) }

@@ -1,19 +1,15 @@
 -- `dec` gives what opening gives.
-use mathlib.Core.Path.{sym, ap, ◌∙◌}
+use mathlib.Core.Path.{ap, ◌∙◌}
+use Rattle.std.specs.Prelude.{Some, option_map}
 use Rattle.hash.specs.Fips202.{sha3_256}
 use Rattle.packets.specs.Packets.{dec}
-use Rattle.seal.proofs.Compare.{opens-pick, key_or_yes, key_or_no}
+use Rattle.seal.proofs.Compare.{key_by}
 use Rattle.seal.proofs.dec.Goals as goal
 
-pub returns-then-is_same : goal.returns-then-is_same
+pub returns-in_err-payload : goal.returns-in_err-payload
 unfolding dec
-returns-then-is_same c =
-    let opened = c.open_payload-same.ensures in
-    let key = c.sha3_256.ensures ∙ ap sha3_256 opened.0 in
-    (opened.1 ∙ sym (opens-pick _ _), key ∙ sym (key_or_yes _ _ _ (sym opened.1 ∙ c.if-is_same.true)))
+returns-in_err-payload c = c.from_residual.ensures ∙ ap (option_map sha3_256) c.in_err-payload.ensures ∙ key_by sha3_256 _ _
 
-pub returns-else-is_same : goal.returns-else-is_same
+pub returns : goal.returns
 unfolding dec
-returns-else-is_same c =
-    let opened = c.open_payload-same.ensures in
-    (opened.1 ∙ sym (opens-pick _ _), sym (key_or_no _ _ _ (sym opened.1 ∙ c.if-is_same.false)))
+returns c = ap Some c.sha3_256.ensures ∙ ap (option_map sha3_256) c.in_ok-payload.ensures ∙ key_by sha3_256 _ _

@@ -1,12 +1,10 @@
--- `derive_secret_key` hashes for key and seed, and copies both.
-use mathlib.Core.List.{List, ◌++◌}
-use mathlib.Core.Path.{ap, ap₂, ◌∙◌}
-use Prim.Native.Nat.{ℕ}
+-- `derive_secret_key` hashes for key and seed.
+use native.Mathlib.Omega.{arith}
+use mathlib.Core.List.{◌++◌}
+use mathlib.Core.Path.{◌≡◌, ◌∙◌}
 use lib.ListN.{length}
-use Rattle.laws.proofs.Parts.{put_two}
 use Rattle.hash.specs.Fips202.{shake256}
-use Rattle.hash.proofs.Outputs.{length-shake256}
-use Rattle.packets.specs.Parameters.{key_bytes, seed_bytes}
+use Rattle.packets.specs.Parameters.{seed_bytes}
 use Rattle.packets.specs.Packets.{secret_key}
 use Rattle.seal.proofs.derive_secret_key.Goals as goal
 
@@ -14,9 +12,8 @@ pub returns : goal.returns
 unfolding secret_key
 returns c =
     let both = c.shake256_two.ensures in
-    let key = c.copy.ensures ∙ both.0 ∙ ap (λ (m : List ℕ). shake256 m key_bytes) c.followed_by-for_key.ensures in
-    let seed = c.copy-2.ensures ∙ both.1 ∙ ap (λ (m : List ℕ). shake256 m seed_bytes) c.followed_by-for_seed.ensures in
-    let key-size = ap length key ∙ length-shake256 _ key_bytes in
-    let seed-size = ap length seed ∙ length-shake256 _ seed_bytes in
-    put_two key_bytes seed_bytes c.copy.new.to c.copy-2.new.to c.args.secret.now key-size seed-size c.requires.1
-    ∙ ap₂ ◌++◌ key seed
+    let halves = c.split_at_mut-key.ensures in
+    let key = both.0 ∙ (λ t. shake256 (c.followed_by-for_key.ensures t) (halves.front_len t)) in
+    let size : length c.split_at_mut-key.result.1.now ≡ seed_bytes = omega (arith, halves.back_len, c.requires.1) in
+    let seed = both.1 ∙ (λ t. shake256 (c.followed_by-for_seed.ensures t) (size t)) in
+    λ t. key t ++ seed t

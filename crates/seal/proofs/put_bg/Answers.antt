@@ -5,4 +5,4 @@ use Rattle.seal.proofs.put_bg.Goals as goal
 
 pub add_assign-requires : goal.add_assign-requires
 add_assign-requires c =
-    addable c.row_times_matrix.ensures (matrix-canonical 1 4 4 _ _) c.requires.2
+    addable c.row_times_matrix.ensures (matrix-canonical 1 4 4 _ _) c.args.packet.now.right.canonical

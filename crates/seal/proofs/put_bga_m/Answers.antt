@@ -5,4 +5,4 @@ use Rattle.seal.proofs.put_bga_m.Goals as goal
 
 pub add_assign-requires : goal.add_assign-requires
 add_assign-requires c =
-    addable c.row_times_column.ensures (matrix-canonical 1 4 1 _ _) c.embed_transformed.ensures.1
+    addable c.row_times_column.ensures (matrix-canonical 1 4 1 _ _) c.embed_transformed.new.out.canonical

@@ -16,8 +16,11 @@ returns c =
     let made = c.derive_secret_vectors.ensures in
     let n = c.args in
     let old = n.bytes.now in
-    let lent = length-take-le others (drop cut old) (omega (arith, length-drop cut old, c.requires.0)) in
-    let bytes = continues n.stream.now old _ lent c.requires.0 made.0 in
+    let size = c.told-bytes in
+    let lent = length-take-le others (drop cut old) (omega (arith, length-drop cut old, size)) in
+    let bytes = continues n.stream.now.sponge old _ lent size made.0 in
+    let a = n.key.now.left.numbers in
+    let k = n.key.now.right.numbers in
     c.seals_again.ensures
-    ∙ (λ t. same ciphertext_numbers (sealed_for (uniforms matrix_numbers (bytes t)) n.a.now n.c.now (made.2.left_is t) (made.2.right_is t)
-    n.payload.now) n.ciphertext.now)
+    ∙ (λ t. same ciphertext_numbers (sealed_for (uniforms matrix_numbers (bytes t)) a k (made.2.left_is t) (made.2.right_is t) n.payload.now)
+    n.ciphertext.numbers.now)

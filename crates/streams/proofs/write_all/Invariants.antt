@@ -1,4 +1,4 @@
--- Each turn leaves fewer bytes of the buffer to be written, or is the last.
+-- Each turn leaves fewer bytes of the buffer to be written.
 use Rattle.std.proofs.Common.{◌-◌, ◌≤◌, length}
 use Rattle.streams.proofs.write_all.Given as goal
 

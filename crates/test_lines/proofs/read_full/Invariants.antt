@@ -1,9 +1,9 @@
 -- Each turn leaves fewer bytes of the buffer to be filled, or is the last.
-use Rattle.std.proofs.Common.{◌≡◌, ◌-◌, ◌≤◌, length}
+use Rattle.std.proofs.Common.{◌-◌, ◌≤◌, length}
 use Rattle.test_lines.proofs.read_full.Given as goal
 
 abbrev pub invariant-loop-done : goal.invariant-loop-done
-invariant-loop-done l = (l.done ≤ length l.buf) × (length l.buf ≡ length l.initial.buf)
+invariant-loop-done l = l.done ≤ length l.initial.buf
 
 abbrev pub decreases-loop-done : goal.decreases-loop-done
 decreases-loop-done l = length l.initial.buf - l.done

@@ -2,27 +2,24 @@
 use Rattle.std.proofs.Common.{◌≡◌, ℕ, ◌+◌, ◌-◌, ◌*◌, ◌%◌, ◌^◌, ◌∙◌}
 use Rattle.laws.proofs.Powers.{append_powers, mul_powers, first_power}
 use Rattle.field.specs.Field.{P}
-use Rattle.field.specs.declared.BFieldElement.{BFieldElement}
-use Rattle.field.specs.Element.{num, Stands}
-use Rattle.field.proofs.Elements.{num-lt}
+use Rattle.field.proofs.Elements.{num_lt}
 use Rattle.field.proofs.BFieldElement.to_p_minus_2.Goals as goal
 
--- e stands for the power n of x
-record Power (x : ℕ) (e : BFieldElement) (n : ℕ) : Type 0 where
-  is : num e ≡ (x ^ n) % P
+-- e is the power n of x
+record Power (x : ℕ) (e : ℕ) (n : ℕ) : Type 0 where
+  is : e ≡ (x ^ n) % P
 
-module _ {x a b : ℕ} {e f r : BFieldElement} where
-  appended : (n : ℕ) → Stands r ((num e ^ (2 ^ n) * num f) % P) → Power x e a → Power x f b → Power x r (a * 2 ^ n + b)
-  appended n s g h = record { is = s.number ∙ append_powers P x a b (2 ^ n) (num e) (num f) g.is h.is }
+module _ {x a b : ℕ} {e f r : ℕ} where
+  appended : (n : ℕ) → r ≡ (e ^ (2 ^ n) * f) % P → Power x e a → Power x f b → Power x r (a * 2 ^ n + b)
+  appended n s g h = record { is = s ∙ append_powers P x a b (2 ^ n) e f g.is h.is }
 
-  multiplied : Stands r ((num e * num f) % P) → Power x e a → Power x f b → Power x r (a + b)
-  multiplied s g h = record { is = s.number ∙ mul_powers P x a b (num e) (num f) g.is h.is }
+  multiplied : r ≡ (e * f) % P → Power x e a → Power x f b → Power x r (a + b)
+  multiplied s g h = record { is = s ∙ mul_powers P x a b e f g.is h.is }
 
 pub returns : goal.returns
 returns c =
-    let self = c.args.self in
-    let x = num self in
-    let one : Power x self 1 = record { is = first_power P x (num-lt self) } in
+    let x = c.args.self in
+    let one : Power x x 1 = record { is = rw (← c.self.view_is) (first_power P _ (num_lt c.self.inside)) } in
     let ones_2 : Power x c.append-bin_2_ones.result (2 ^ 2 - 1) = appended 1 c.append-bin_2_ones.ensures one one in
     let ones_3 : Power x c.append-bin_3_ones.result (2 ^ 3 - 1) = appended 1 c.append-bin_3_ones.ensures ones_2 one in
     let ones_6 : Power x c.append-bin_6_ones.result (2 ^ 6 - 1) = appended 3 c.append-bin_6_ones.ensures ones_3 ones_3 in
@@ -33,4 +30,4 @@ returns c =
     let ones_31_zero : Power x c.mul-bin_31_ones_1_zero.result (2 ^ 32 - 2) = multiplied c.mul-bin_31_ones_1_zero.ensures ones_31 ones_31 in
     let ones_32 : Power x c.mul-bin_32_ones.result (2 ^ 32 - 1) = multiplied c.mul-bin_32_ones.ensures ones_31_zero one in
     let last : Power x c.append.result (P - 2) = appended 32 c.append.ensures ones_31_zero ones_32 in
-    record { good = c.append.ensures.good; number = last.is }
+    last.is

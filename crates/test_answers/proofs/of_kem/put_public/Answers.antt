@@ -19,7 +19,7 @@ canonical q ga r l hq hg e p =
 
 pub returns : goal.returns
 returns c =
-    let q = c.copy.new.to in
+    let q = c.copy_from_slice.new.self in
     let r = c.pack.new.out in
     let ga = c.args.ga.now in
     let hq : length q ≡ 32 = search rules in

@@ -1,0 +1,13 @@
+-- `absorb`: what is still to be fed gives what feeding all of it gives.
+use Rattle.std.proofs.Common.{◌≡◌, ◌<◌, length}
+use Rattle.std.specs.Slice.Iter.{chunks_rest, chunks_size}
+use Rattle.hash.specs.Running.{feed}
+use Rattle.hash.proofs.Sponge.absorb.Given as goal
+
+abbrev pub invariant-loop-block : goal.invariant-loop-block
+invariant-loop-block l = record {
+  whole : chunks_size l.block-iterator ≡ l.rate;
+  within : l.self.at < l.rate;
+  begun : 0 < length (chunks_rest l.block-iterator) → l.self.at ≡ 0;
+  fed : feed l.rate l.self (chunks_rest l.block-iterator) ≡ feed l.rate l.fn.self l.fn.part;
+}

@@ -1,7 +1,0 @@
--- `judge_sampling` judges bytes and a buffer as docs/SCHEME.md says: its steps are those of `judged`.
-use Rattle.refusals.specs.Judgement.{judged}
-use Rattle.refusals.proofs.judge_sampling.Goals as goal
-
-pub returns : goal.returns
-unfolding judged
-returns c = rw (c.sized-2.ensures, c.sized.ensures)

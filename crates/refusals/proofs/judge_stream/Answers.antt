@@ -1,7 +1,0 @@
--- `judge_stream` judges a message and an output of at most so many bytes as docs/SCHEME.md says: its steps are those of `judged`.
-use Rattle.refusals.specs.Judgement.{judged}
-use Rattle.refusals.proofs.judge_stream.Goals as goal
-
-pub returns : goal.returns
-unfolding judged
-returns c = rw (c.sized-2.ensures, c.sized.ensures)

@@ -1,9 +1,0 @@
--- `add` answers as it is judged, and fills the buffer where nothing is wrong.
-use borrow.Author.Rules.{rules}
-use Rattle.refusals.proofs.Calls.{as_asked}
-use Rattle.ring_calls.proofs.add.Goals as goal
-
-pub add-requires : goal.add-requires
-add-requires c =
-    let good = as_asked _ _ c.in-Done.is c.judge_operands-v.ensures in
-    search rules

@@ -1,2 +1,0 @@
--- Laws of counts.
-pub mod Counting
