@@ -14,6 +14,7 @@ ghost use Rattle.lanes.specs.Samplers.{ones};
 ghost use Rattle.packets.specs.Packets.{G, keygen, enc, opens, key_or, dec};
 ghost use Rattle.packets.specs.Layout.{public_bytes, public_of};
 
+// Stays: all of this file is exported to C, which has no Option for what `bench_dec` answers and no type with a fact.
 #[unsafe(no_mangle)]
 pub extern "C" fn bench_permute(a: &mut [u64; 25])
     ensures { a.new ≡ keccak_p a.old }

@@ -1,16 +1,19 @@
 -- Reading and writing undo each other, and what a loop has done that writes numbers.
-use mathlib.Core.Path.{◌≡◌, sym, ap, ap₂, ◌∙◌, subst}
-use mathlib.Core.List.{List, ◌++◌, append_assoc}
-use Prim.Native.Nat.{ℕ, suc, ◌+◌, ◌*◌, ◌/◌, ◌%◌, ◌^◌, ◌≤◌, ◌<◌}
+use mathlib.Core.Path.{◌≡◌, refl, sym, ap, ap₂, ◌∙◌, subst}
+use mathlib.Core.List.{List, [], map, ◌++◌, append_assoc}
+use Prim.Native.Nat.{ℕ, zero, suc, ◌+◌, ◌*◌, ◌/◌, ◌%◌, ◌^◌, ◌≤◌, ◌<◌}
 use native.Mathlib.Nat.{zero-add, add-zero, mod-lt, mod-eq_of_lt, div-one}
 use native.Mathlib.Omega.{arith}
 use lib.Dec.{lit<}
 use lib.ListN.{length, get_or, set, take, drop}
-use lib.Seq.{ext_get_or, get_or-drop, drop-drop, sets-eq}
-use Rattle.std.specs.Int.{to_le_bytes, w64}
+use lib.Seq.{ext_get_or, get_or-take, get_or-drop, drop-drop, sets-eq}
+use Rattle.std.specs.Int.{from_le_bytes, to_le_bytes, w64}
+use Rattle.std.specs.Simd.{first_chunks}
+use Rattle.std.proofs.lemmas.List.{length-map, get_or-map}
 use Rattle.laws.specs.Lists.{Below}
-use Rattle.laws.specs.Digits.{digit}
-use Rattle.laws.proofs.Lists.{length-tab, get_or-tab}
+use Rattle.laws.specs.Sums.{total}
+use Rattle.laws.specs.Digits.{digit, number}
+use Rattle.laws.proofs.Lists.{length-tab, get_or-tab, is_tab}
 use Rattle.laws.proofs.Bounds.{tab_below}
 use Rattle.laws.proofs.Digits.{number_ext, number_digits, digit-number}
 use Rattle.laws.proofs.Updates.{Filled, mapped_more}
@@ -20,7 +23,7 @@ pub length-words : (l : List ℕ) → length (words l) ≡ length l / 8
 unfolding words
 length-words l = length-tab (length l / 8) (λ i. word l (8 * i))
 
-pub get_d_words : (l : List ℕ) (i : ℕ) → i < length l / 8 → get_or (words l) i 0 ≡ word l (8 * i)
+get_d_words : (l : List ℕ) (i : ℕ) → i < length l / 8 → get_or (words l) i 0 ≡ word l (8 * i)
 unfolding words
 get_d_words l i h = get_or-tab (length l / 8) (λ j. word l (8 * j)) 0 i h
 
@@ -56,6 +59,48 @@ unfolding word
 word-drop l o =
     number_ext 256 8 (λ k. get_or (drop o l) (0 + k) 0) (λ k. get_or l (o + k) 0)
     (λ k h. ap (λ (n : ℕ). get_or (drop o l) n 0) (zero-add k) ∙ get_or-drop o l k 0)
+
+-- chunk i of eight bytes, and std's number of it
+chunk-at : (n i : ℕ) (m d : List ℕ) → i < n → get_or (first_chunks 8 n m) i d ≡ take 8 (drop (8 * i) m)
+chunk-at zero i m d h = absurd (omega arith)
+chunk-at (suc n) zero m d h = refl
+chunk-at (suc n) (suc i) m d h =
+    let e : 8 + 8 * i ≡ 8 * suc i = omega arith in
+    chunk-at n i (drop 8 m) d (omega arith) ∙ ap (take 8) (drop-drop (8 * i) 8 m ∙ ap (λ (k : ℕ). drop k m) e)
+
+chunk-byte : (m : List ℕ) (o k : ℕ) → k < 8 → get_or (take 8 (drop o m)) k 0 ≡ get_or m (o + k) 0
+chunk-byte m o k h = get_or-take 8 (drop o m) k 0 h ∙ get_or-drop o m k 0
+
+pub word_of_chunk : (n i : ℕ) (m d : List ℕ) → i < n → from_le_bytes w64 (get_or (first_chunks 8 n m) i d) ≡ word m (8 * i)
+unfolding word number total
+word_of_chunk n i m d h =
+    let o = 8 * i in
+    ap (from_le_bytes w64) (chunk-at n i m d h)
+    ∙ omega (
+      arith,
+      chunk-byte m o 0 (lit< tt),
+      chunk-byte m o 1 (lit< tt),
+      chunk-byte m o 2 (lit< tt),
+      chunk-byte m o 3 (lit< tt),
+      chunk-byte m o 4 (lit< tt),
+      chunk-byte m o 5 (lit< tt),
+      chunk-byte m o 6 (lit< tt),
+      chunk-byte m o 7 (lit< tt),
+    )
+
+length_chunks : (n k : ℕ) (m : List ℕ) → length (first_chunks n k m) ≡ k
+length_chunks n zero m = refl
+length_chunks n (suc k) m = ap suc (length_chunks n k (drop n m))
+
+-- all of them are the numbers in the bytes
+pub words_of_chunks : (s : List ℕ) → map (from_le_bytes w64) (first_chunks 8 (length s / 8) s) ≡ words s
+unfolding words
+words_of_chunks s =
+    let n = length s / 8 in
+    let chunks = first_chunks 8 n s in
+    let size = length_chunks 8 n s in
+    is_tab n (λ i. word s (8 * i)) 0 (map (from_le_bytes w64) chunks) (length-map chunks (from_le_bytes w64) ∙ size)
+    (λ i h. get_or-map (from_le_bytes w64) chunks i [] 0 (omega (arith, size)) ∙ word_of_chunk n i s [] h)
 
 -- eight bytes that were written as a part of the list
 pub with_bytes : (l ys : List ℕ) (o k x : ℕ) → o + 8 ≤ length l → k ≡ 8 → ys ≡ to_le_bytes w64 x

@@ -41,7 +41,8 @@ module _ (args : List Asked) (given answer : Told) (lent : List Lent) (new : Lis
   pub buffers-given : new ≡ left given lent
   buffers-given = call.buffers ∙ ap (λ (t : Told). left (then t given) lent) fine_so
 
-pub filled : (args : List Asked) (r : Result ⊤ Refusal) (old new result : List ℕ) → Each args → Call args fine (said r) (into old result ∷ []) (new ∷ [])
+pub filled : (args : List Asked) (r : Result ⊤ Refusal) (old new result : List ℕ) → Each args
+    → Call args fine (said r) (into old result ∷ []) (new ∷ [])
     → (r ≡ Ok tt) × (new ≡ result)
 filled args r old new result each call = (
   said_done r (as_given args fine (said r) _ _ each call),

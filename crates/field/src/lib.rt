@@ -57,7 +57,7 @@ pub fn canonical(x: u64) -> u64
     }
 }
 
-// Stays: a and b are plain numbers with a `requires` and no type of their own, since what C lends is slices of u64 (`ring_elements`).
+// Stays: numbers, here and below, with a `requires` and no type of their own, since C lends slices of u64 (`galmuriec_ring_add`).
 pub fn sub_mod_p(a: u64, b: u64) -> u64
     requires { (a < P) × (b ≤ P) }
     ensures { (result ≡ (a + (P - b)) % P) × (result < P) }

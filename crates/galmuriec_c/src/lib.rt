@@ -2,7 +2,7 @@
 // a slice comes as a pointer and a count, the refusal as three numbers.
 #![tactic(auto)]
 
-ghost use Rattle.std.specs.Prelude.{◌≡◌, [], ◌∷◌, ◌+◌, ◌*◌, ◌-◌, ◌%◌, ◌^◌, length};
+ghost use Rattle.std.specs.Prelude.{◌≡◌, ◌+◌, ◌*◌, ◌-◌, ◌%◌, ◌^◌, length};
 ghost use Rattle.laws.specs.Lists.{zeros};
 ghost use Rattle.field.specs.Field.{P};
 ghost use Rattle.refusals.specs.Answers.{said, told, tells};
@@ -59,6 +59,7 @@ fn deliver(answer: Result<u64, Refusal>, res: &mut u64, refusal: &mut [u64; 3]) 
 }
 
 // ---- field: plain numbers
+// Stays: from here on each function is exported, so C has it by its name with these arguments (include/galmuriec.h).
 // The canonical number of any number; never refuses.
 #[unsafe(no_mangle)]
 pub extern "C" fn galmuriec_field_new(x: u64) -> u64

@@ -13,7 +13,7 @@ use streams::Stopped;
 const MOST: usize = LONGEST_JOB + 1;
 
 // The answer to every input of which the first n bytes of buf are as much as buf has room for.
-// Stays: the theorem `Answers` speaks of the room that buf has behind the n bytes, so a slice of those alone would say less.
+// Stays: the clause `Answers`, here and for `reply`, speaks of the room that buf has behind the n bytes: a slice of those alone would say less.
 fn answer(buf: &[u8], n: usize, output: &mut [u8]) -> usize
     requires { (n ≤ length buf.now) × (dec_job_bytes < length buf.now) }
     ensures { (result ≤ longest_answer) × Answers buf.now n result output.old output.new }

@@ -1,6 +1,5 @@
-// The same planes of a state whose lanes 1, 2, 8, 12, 17 and 20 are kept complemented, and stay so: 5 complements a round in place of 25, since
-// x | !y is !(!x & y). x86-64 has no `!x & y` on words, so that the permutation of one state takes a tenth less time.
-ghost use Rattle.std.specs.Prelude.{◌≡◌};
+// The planes of a round, as in plain.rt, of a state whose lanes 1, 2, 8, 12, 17 and 20 are kept complemented, and stay so: 5 complements a round
+// in place of 25, since x | !y is !(!x & y). x86-64 has no `!x & y` on words, so that the permutation of one state takes a tenth less time.
 ghost use Rattle.keccak.specs.Complement.{kept_row};
 
 use crate::{Planes, turned_row};

@@ -1,5 +1,4 @@
 // The planes of a round, 3.2.1 to 3.2.4 lane by lane. SSE2 has `!x & y`, so the pair uses these.
-ghost use Rattle.std.specs.Prelude.{◌≡◌};
 ghost use Rattle.keccak.specs.Lanes.{row};
 
 use crate::{Planes, turned_row};

@@ -2,7 +2,7 @@
 // None demands anything of the caller.
 #![tactic(auto)]
 
-ghost use Rattle.std.specs.Prelude.{◌≡◌, [], ◌∷◌, length};
+ghost use Rattle.std.specs.Prelude.{[], ◌∷◌, length};
 ghost use Rattle.laws.specs.Lists.{zeros};
 ghost use Rattle.codec.specs.Layout.{words, bytes};
 ghost use Rattle.codec.specs.Sizes.{secret_key_bytes, public_key_bytes, shared_key_bytes, randomness_bytes};
@@ -82,6 +82,7 @@ pub fn keygen(randomness: &[u8], secret: &mut [u8], public: &mut [u8]) -> Result
 }
 
 // With the ciphertext as numbers.
+// Stays: C has both forms of `enc` and of `dec` by name (`galmuriec_enc_numbers`); they share `judge_enc` and seal's functions.
 pub fn enc_numbers(
     public: &[u8],
     randomness: &[u8],
@@ -113,9 +114,7 @@ pub fn dec_numbers(secret: &[u8], ciphertext: &[u64], shared: &mut [u8]) -> Resu
         (packets.dec ones secret.now ciphertext.now) result shared.old shared.new }
 {
     judge_dec_numbers(secret.len(), ciphertext, shared.len())?;
-    let Some(key) = seal::dec(secret, ciphertext) else {
-        return Err(Refusal::Differs);
-    };
+    let key = seal::dec(secret, ciphertext).ok_or(Refusal::Differs)?;
     shared.copy_from_slice(&key);
     Ok(())
 }
@@ -154,9 +153,7 @@ pub fn dec(secret: &[u8], ciphertext: &[u8], shared: &mut [u8]) -> Result<(), Re
     judge_dec(secret.len(), ciphertext, shared.len())?;
     let mut numbers = [0u64; CIPHERTEXT_NUMBERS];
     codec::unpack(ciphertext, &mut numbers);
-    let Some(key) = seal::dec(secret, &numbers) else {
-        return Err(Refusal::Differs);
-    };
+    let key = seal::dec(secret, &numbers).ok_or(Refusal::Differs)?;
     shared.copy_from_slice(&key);
     Ok(())
 }

@@ -79,7 +79,8 @@ short_halves count l front back x y ef eb ex ey h = λ i. ((ex ∙ low) i + (P -
 
     high : counts count back 0 ≡ counts count l 4
     high = counts_same count back l 0 4 (λ i g.
-        ap (λ (m : List ℕ). get_or m (0 + i) 0) eb ∙ get_or-drop 4 l (0 + i) 0 ∙ (let e : 4 + (0 + i) ≡ 4 + i = omega arith in ap (λ (n : ℕ). get_or l n 0) e))
+        ap (λ (m : List ℕ). get_or m (0 + i) 0) eb ∙ get_or-drop 4 l (0 + i) 0
+        ∙ (let e : 4 + (0 + i) ≡ 4 + i = omega arith in ap (λ (n : ℕ). get_or l n 0) e))
 
 -- 2^64 is 2^32 - 1 modulo p
 pub folded : (hi lo : ℕ) → (lo + hi * 0xffff_ffff) % P ≡ (hi * 2 ^ 64 + lo) % P

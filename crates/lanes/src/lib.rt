@@ -22,7 +22,7 @@ fn uniform_of(bytes: &[u8]) -> u64
 }
 
 // As many uniform coefficients as `out` holds: a ring element, or a matrix of them.
-// Stays: `out.iter_mut().zip(randomness.chunks_exact(9))`, here and below, leaves `returns` open: nothing is kept of what it wrote.
+// Stays: `out.iter_mut().zip(randomness.chunks_exact(9))`, here and in `sample_shorts`, leaves `returns` open: nothing is kept of what it wrote.
 pub fn sample_uniforms(randomness: &[u8], out: &mut [u64])
     requires { length randomness.now ≡ 9 * length out.old }
     ensures { out.new ≡ uniforms (length out.old) randomness.now }
@@ -32,15 +32,8 @@ pub fn sample_uniforms(randomness: &[u8], out: &mut [u64])
     }
 }
 
-// Stays: docs/PROMISES.md names it, and the public call draws by it.
-pub fn sample_uniform(randomness: &[u8], out: &mut [u64])
-    requires { (length randomness.now ≡ 576) × (length out.old ≡ 64) }
-    ensures { out.new ≡ uniforms 64 randomness.now }
-{
-    sample_uniforms(randomness, out);
-}
-
 // The table of set bits, with its rule. Each mention of the table copies it, so that it is taken once.
+// Stays: docs/SCHEME.md has the table in the base; its request 3 puts the machine's count in its place, in a landing of its own.
 #[derive(Drop)]
 struct SetBits {
     table: [u8; 256],
@@ -99,14 +92,6 @@ pub fn sample_shorts(randomness: &[u8], out: &mut [u64])
     }
 }
 
-// Stays: docs/PROMISES.md names it, and the public call draws by it.
-pub fn sample_short(randomness: &[u8], out: &mut [u64])
-    requires { (length randomness.now ≡ 512) × (length out.old ≡ 64) }
-    ensures { out.new ≡ shorts ones 64 randomness.now }
-{
-    sample_shorts(randomness, out);
-}
-
 // The four lowest bits of a byte, each at the top of its lane.
 // Stays: with a u8 in place of the bound LLVM widens each byte twice, which takes 80 instructions more in enc and in dec.
 fn lift(b: u64) -> u64
@@ -120,6 +105,7 @@ fn lift(b: u64) -> u64
     b0 * 0x8000 + b1 * 0x8000_0000 + b2 * 0x8000_0000_0000 + b3 * 0x8000_0000_0000_0000
 }
 
+// Stays: how long slices are is asked here and above of what C callers lend (`galmuriec_embed_msg`), so that no array can say it.
 pub fn embed_msg(msg: &[u8], out: &mut [u64])
     requires { (length msg.now ≡ 32) × (length out.old ≡ 64) }
     ensures { out.new ≡ embed msg.now }

@@ -6,7 +6,6 @@ pub mod Lists
 pub mod Updates
 pub mod Parts
 pub mod Congruence
-pub mod Wrapping
 pub mod Powers
 pub mod Pigeonhole
 pub mod Monomials

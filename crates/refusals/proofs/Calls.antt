@@ -7,7 +7,8 @@ use Prim.Native.Nat.{ℕ, zero, suc, ◌-◌, ◌/◌}
 use lib.Dec.{eqb, lit<}
 use lib.ListN.{length, get_or, drop, length-drop}
 use borrow.Author.Tests.{eqb-true, leb-true, eq-eqb, le-leb}
-use Rattle.std.specs.Prelude.{Result, Ok, Err, ⊤}
+use Rattle.std.specs.Prelude.{Result, Ok, Err, Option, None, ⊤}
+use Rattle.std.specs.Option.{ok_or}
 use Rattle.laws.specs.Choices.{pick}
 use Rattle.codec.proofs.Layouts.{length-words}
 use Rattle.refusals.specs.Arguments.{Asked, numbers, packed, room, at_most, value, anything, fits, coefficients, AsAsked, Each}
@@ -101,6 +102,10 @@ done args given answer lent new e a b = record {
   buffers = b ∙ ap (λ (t : Told). left (then t given) lent) e;
 }
 
+pub gives_done : (v : Result ⊤ Refusal) (args : List Asked) (x y : ℕ) → v ≡ Ok tt → said v ≡ judged args → x ≡ y
+    → Call args (gives (y ∷ [])) (gives (x ∷ [])) [] []
+gives_done v args x y e f g = done args _ _ _ _ (ap said (sym e) ∙ f) (ap (λ (z : ℕ). gives (z ∷ [])) g) refl
+
 -- ---- what is told determines the answer, of any type that can be read back
 pub record Answers (A : Type 0) : Type 0 where
   pub tell : A → Told
@@ -157,6 +162,10 @@ given_two_back : (v : Result (ℕ × ℕ) Refusal) → given_two_of (told_two v)
 unfolding given_two_of
 given_two_back (Ok xs) = refl
 given_two_back (Err r) = ap Err (refusal_back r)
+
+-- ---- the refusal that `ok_or` gives
+pub refusal_or : {T : Type 0} (o : Option T) (d e : Refusal) → o ≡ None → ◌≡◌ {A = Result T Refusal} (Err d) (ok_or o e) → d ≡ e
+refusal_or {T = T} o d e n f = let g : ◌≡◌ {A = Result T Refusal} (Err d) (Err e) = f ∙ ap (λ (p : Option T). ok_or p e) n in cc
 
 -- ---- so what a contract allows is one answer and one content of each buffer, whichever shape it has
 pub fills_one : (args : List Asked) (v w : Result ⊤ Refusal) (given : Told) (lent : List Lent) (new new' : List (List ℕ))

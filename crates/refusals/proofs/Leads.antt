@@ -1,18 +1,17 @@
--- The first coefficient that is not canonical: what stands before it, what stands there, and how a loop looks for it.
-use mathlib.Core.Bool.{Bool, true, false}
-use mathlib.Core.Path.{◌≡◌, refl}
-use mathlib.Core.List.{List, [], ◌∷◌}
+-- The first coefficient that is not canonical: what stands before it, what stands there, and the library's word for it.
+use mathlib.Core.Bool.{Bool, true, false, not}
+use mathlib.Core.Path.{◌≡◌, refl, ap, ap₂}
+use mathlib.Core.List.{List, [], ◌∷◌, map}
 use mathlib.Core.Logic.{⊎_elim}
 use Prim.Native.Nat.{ℕ, zero, suc, ◌+◌, ◌≤◌, ◌<◌}
 use native.Mathlib.Nat.{le_of_suc-le-suc, not-suc-le-zero}
-use native.Mathlib.Numerals.{add-one}
 use native.Mathlib.Omega.{arith}
 use lib.Dec.{ltb, lit<}
-use lib.ListN.{length, get_or, drop, drop_of_length-le, get_or-eq_default}
-use lib.Seq.{drop-cons}
-use borrow.Author.Tests.{ltb-true, ltb-false, lt-ltb, le-ltb}
+use lib.ListN.{length, get_or, get_or-eq_default}
+use borrow.Author.Tests.{ltb-true, ltb-false}
 use Rattle.std.specs.Prelude.{nat_le, nat_lt, position, cond, Some, None}
 use Rattle.std.proofs.Common.{tests}
+use Rattle.std.proofs.lemmas.List.{length-map}
 use Rattle.std.specs.List.{position_or_len}
 use Rattle.laws.proofs.Orders.{le_or_lt}
 use Rattle.field.specs.Field.{P}
@@ -74,21 +73,6 @@ lead_is s i bad before = (exact, inside)
         ⊎_elim (λ a. ⊎_elim (λ b. omega arith) (λ b. absurd (not_sooner b)) (le_or_lt i (lead s)))
         (λ a. absurd (not_later a)) (le_or_lt (lead s) i)
 
--- ---- a loop that looks for it: on, found, at the end
-pub lead_more : (s : List ℕ) (i : ℕ) → i < length s → get_or s i 0 < P → lead s ≡ i + lead (drop i s) → lead s ≡ i + 1 + lead (drop (i + 1) s)
-unfolding lead
-lead_more s i h l e =
-    let e₁ : lead (drop i s) ≡ suc (lead (drop (suc i) s)) = rw (drop-cons s i 0) (simp (lt-ltb (get_or s i 0) P l)) in
-    rw (add-one i) (omega arith)
-
-pub lead-here : (s : List ℕ) (i : ℕ) → i < length s → P ≤ get_or s i 0 → lead (drop i s) ≡ 0
-unfolding lead
-lead-here s i h l = rw (drop-cons s i 0) (simp (le-ltb (get_or s i 0) P l))
-
-pub lead_end : (s : List ℕ) (i : ℕ) → length s ≤ i → lead (drop i s) ≡ 0
-unfolding lead
-lead_end s i h = rw (drop_of_length-le s h)
-
 -- ---- the library's word for where it stands
 position_or_len_lead : (s : List ℕ) → position_or_len (λ x. nat_le P x) s ≡ lead s
 unfolding lead
@@ -98,8 +82,10 @@ position_or_len_lead (x ∷ xs) = grind (arith, tests, position_or_len_lead xs)
 pub position_lead : (s : List ℕ) → position (λ x. nat_le P x) s ≡ cond (nat_lt (lead s) (length s)) (Some (lead s)) None
 position_lead s = rw (position_or_len_lead s) refl
 
-pub position-here : (s : List ℕ) (i : ℕ) → lead s ≡ i → i < length s → Some i ≡ position (λ x. nat_le P x) s
-position-here s i e h = rw (position_lead s, e) (simp (lt-ltb i (length s) h))
+-- the first f x that passes p stands where the first x does whose f x passes
+position_or_len-map : {X Y : Type 0} (f : X → Y) (p : Y → Bool) (xs : List X) → position_or_len p (map f xs) ≡ position_or_len (λ x. p (f x)) xs
+position_or_len-map f p [] = refl
+position_or_len-map f p (x ∷ xs) = ap (λ n. cond (not (p (f x))) (1 + n) 0) (position_or_len-map f p xs)
 
-pub position-none : (s : List ℕ) → length s ≤ lead s → None ≡ position (λ x. nat_le P x) s
-position-none s h = rw (position_lead s) (simp (le-ltb (lead s) (length s) h))
+pub position-map : {X Y : Type 0} (f : X → Y) (p : Y → Bool) (xs : List X) → position p (map f xs) ≡ position (λ x. p (f x)) xs
+position-map f p xs = ap₂ (λ i n. cond (nat_lt i n) (Some i) None) (position_or_len-map f p xs) (length-map xs f)

@@ -96,19 +96,16 @@ fn first_bad(s: &[u64]) -> Option<usize>
 }
 
 // The same for numbers in bytes.
-// Stays: `position` over `as_chunks::<8>` finds the place among the chunks, and the contract is about `words`: two functions for this one loop.
 fn first_bad_packed(s: &[u8]) -> Option<usize>
     ensures { result ≡ position (λ x. nat_le P x) (words s.now) }
 {
-    for i in 0..s.len() / 8 {
-        if codec::load(s, 8 * i) >= BFieldElement::P {
-            return Some(i);
-        }
-    }
-    None
+    let (numbers, _) = s.as_chunks::<8>();
+    numbers
+        .iter()
+        .position(|number| u64::from_le_bytes(*number) >= BFieldElement::P)
 }
 
-// ---- the steps of judging, in turn: the first refusal stays (`blame_then` of proofs/Steps)
+// ---- the steps of judging, in turn: the first refusal stays (`so_far` of proofs/Steps)
 // A test that an argument must stand, or else this refusal.
 #[tactic(auto, unfolding(crate::specs::Judgement::blame))]
 pub fn unless(stands: bool, refusal: Refusal) -> Result<(), Refusal>
@@ -166,8 +163,6 @@ pub fn packed(argument: u8, s: &[u8], n: usize, start: usize) -> Result<(), Refu
 }
 
 // ---- one function for each shape of an argument list
-// Stays: those that differ in `==` and `<=` are two lines each; one function would take the comparison as a closure, which says less than its name.
-// Stays: a length and what it should be are two plain numbers; a struct of both makes each of the calls longer, and no contract shorter.
 // One field value.
 #[tactic(auto, using(crate::proofs::Calls::steps), unfolding(crate::specs::Judgement::judged))]
 pub fn judge_value(a: u64) -> Result<(), Refusal>
@@ -195,6 +190,7 @@ pub fn judge_array(array: &[u64], n: usize) -> Result<(), Refusal>
 }
 
 // Two slices of l and m coefficients, and a buffer that has `size` and should have n.
+// Stays: here and below a length and what it should be are two numbers; a struct of both makes each call longer, and no contract shorter.
 #[tactic(auto, using(crate::proofs::Calls::steps), unfolding(crate::specs::Judgement::judged))]
 pub fn judge_operands(
     lhs: &[u64],
@@ -241,6 +237,7 @@ pub fn judge_sampling(given: usize, l: usize, size: usize, n: usize) -> Result<(
 }
 
 // A message of at most l bytes, and an output of at most n.
+// Stays: it differs from `judge_sampling` and `judge_digest` in `==` and `<=`; a comparison passed as a closure says less than these names.
 #[tactic(auto, using(crate::proofs::Calls::steps), unfolding(crate::specs::Judgement::judged))]
 pub fn judge_stream(given: usize, l: usize, size: usize, n: usize) -> Result<(), Refusal>
     ensures { Judges (at_most l given ∷ at_most n size ∷ []) result }

@@ -25,7 +25,8 @@ use Rattle.ring.proofs.Blocks.{rule_low, rule_high, stage_below, block_fits, ent
 
 pub backward-canonical : (m t : ℕ) (l : List ℕ) → Coefficients 64 (backward m t l)
 unfolding backward
-backward-canonical m t l = tab_below P 64 (stage_at sum_back difference_back zeta_inv m t l) p_pos (λ k h. stage_below backward_canonical zeta_inv m t l k)
+backward-canonical m t l =
+    tab_below P 64 (stage_at sum_back difference_back zeta_inv m t l) p_pos (λ k h. stage_below backward_canonical zeta_inv m t l k)
 
 -- a butterfly over F
 el_sum : (z u w : ℕ) → el (sum_back z u w) ≡ F.add (el u) (el w)

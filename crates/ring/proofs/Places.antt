@@ -18,7 +18,8 @@ pub record Placed (R : ℕ → ℕ → Type 0) (i : ℕ) (old new : List ℕ) : 
 pub placed_none : {R : ℕ → ℕ → Type 0} {l : List ℕ} → Placed R 0 l l
 placed_none = record { same_length = refl; passed = λ j h. absurd (not-suc-le-zero h); rest = λ j h. refl }
 
-pub placed_more : {R : ℕ → ℕ → Type 0} {i : ℕ} {old new : List ℕ} (v : ℕ) → i < length old → R i v → Placed R i old new → Placed R (i + 1) old (set new i v)
+pub placed_more : {R : ℕ → ℕ → Type 0} {i : ℕ} {old new : List ℕ} (v : ℕ) → i < length old → R i v
+    → Placed R i old new → Placed R (i + 1) old (set new i v)
 placed_more {R} {i} {old} {new} v h r p = record {
   same_length = length-set new i v ∙ p.same_length;
   passed = λ j q. at j q (ℕ_discrete j i);

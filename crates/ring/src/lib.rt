@@ -5,7 +5,7 @@
 mod directions; // forward and backward
 mod tables; // the zetas, and 1/64
 
-ghost use Rattle.std.specs.Prelude.{◌≡◌, ℕ, ◌+◌, ◌*◌, ◌-◌, ◌%◌, ◌^◌, ◌<◌, ◌≤◌, length, get_or};
+ghost use Rattle.std.specs.Prelude.{◌≡◌, ℕ, ◌+◌, ◌*◌, ◌-◌, ◌%◌, ◌<◌, ◌≤◌, length, get_or};
 ghost use Rattle.laws.specs.Lists.{tab};
 ghost use Rattle.field.specs.Field.{P, Coefficients};
 ghost use Rattle.ring.specs.Transform.{transform, untransform, zeta};
@@ -26,7 +26,7 @@ pub fn powers_of_psi_bitreversed() -> [u64; 64]
 }
 
 // One block of a transform.
-// Stays: a turn writes two places of one slice, so that a loop over half of the block would still index the other half.
+// Stays: over both halves (`iter_mut().zip(..)`) nothing is kept of what is written, so that `returns` stays open, as in lanes' samplers.
 fn butterflies<D: Direction>(array: &mut [u64], s: usize, t: usize, zeta: BFieldElement)
     requires coefficients { Coefficients 64 array.old }
     requires t_bound { s + t + t ≤ 64 }
@@ -40,7 +40,7 @@ fn butterflies<D: Direction>(array: &mut [u64], s: usize, t: usize, zeta: BField
 }
 
 // One stage: m blocks of t + t numbers.
-// Stays: with `chunks_exact_mut` `returns` stays open, since nothing is kept of what it lends.
+// Stays: with `chunks_exact_mut` `returns` stays open (tried in `coset_ntt_noswap_four`), since nothing is kept of what it lends.
 fn stage<D: Direction>(array: &mut [u64], direction: &D, m: usize, t: usize)
     requires coefficients { Coefficients 64 array.old }
     requires blocks { m * (t + t) ≡ 64 }
@@ -188,7 +188,7 @@ fn combined(vector: &[u64], k: usize, matrix: &[u64], at: usize, step: usize) ->
 
 // A vector of four ring elements times a matrix: element e of out is the sum over q of vector element q times matrix element
 // e·row + q·step.
-// Stays: with `chunks_exact_mut(64).enumerate()` `returns` stays open, since nothing is kept of what it lends.
+// Stays: with `chunks_exact_mut(64)` `returns` stays open, as in `coset_ntt_noswap_four`; with `count` from `out.len()` the contract divides by 64.
 fn vector_times(
     vector: &[u64],
     matrix: &[u64],
@@ -213,6 +213,7 @@ fn vector_times(
 }
 
 // The matrix products that keys and packets take, of transformed elements: 4 by 4 times 4 by 1,
+// Stays: `vector_times` is the one function of all three, and C has each of them by its name (`galmuriec_matrix_times_column`).
 pub fn matrix_times_column(lhs: &[u64], rhs: &[u64], out: &mut [u64])
     requires { Coefficients 1024 lhs.now × Coefficients 256 rhs.now × (length out.old ≡ 256) }
     ensures { out.new ≡ matrix 4 4 1 lhs.now rhs.now }

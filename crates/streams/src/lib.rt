@@ -2,7 +2,7 @@
 // a part is continued. Every function returns if each call of the reader, the writer or the clock does, whatever it answers.
 #![tactic(auto)]
 
-ghost use Rattle.std.specs.Prelude.{◌≡◌, ◌<◌, ◌≤◌, length, IfOk};
+ghost use Rattle.std.specs.Prelude.{◌≡◌, ◌<◌, length, IfOk};
 ghost use Rattle.streams.specs.Counts.{Within, Whole};
 
 use std::error::Error;
@@ -25,8 +25,13 @@ pub enum Stopped {
 }
 
 impl From<io::Error> for Stopped {
-    fn from(error: io::Error) -> Self {
-        Stopped::Failed(error)
+    ghost use Rattle.std.specs.Prelude.{◌≡◌};
+    ghost use Rattle.streams.specs.declared.Stopped.TheVariants.{Failed};
+
+    ghost from_gives = { λ e r. r ≡ Failed e };
+
+    fn from(e: io::Error) -> Self {
+        Stopped::Failed(e)
     }
 }
 
@@ -100,7 +105,7 @@ pub fn read_all<C: Clock, R: Read>(
 }
 
 // One write, made again where the system says so or takes nothing.
-// Stays: beside `read_some` 0 has another meaning, and what a closure over the call answers would have no bound by the buffer that it captured.
+// Stays: in `read_some` 0 is an answer and here it is not; one function for both takes a closure, which promises no bound by the buffer.
 fn write_some<C: Clock, W: Write>(clock: &C, output: &mut W, buf: &[u8]) -> Result<usize, Stopped>
     ensures some { IfOk result (λ n. 0 < n) }
     ensures within { Within (length buf.now) result }

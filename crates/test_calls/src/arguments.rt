@@ -63,11 +63,13 @@ fn numbers(alloc: Global, seed: u64, below: u64, n: usize) -> Result<Vec<u64>, A
     Ok(out)
 }
 
-// The places that the question sets in one of its arguments.
-pub fn amend(numbers: &mut [u64], q: &Question, argument: u64) {
+// The places that the question sets in one of its arguments, each to the item of its value.
+pub fn amend<T: Copy + Drop, F: Fn(u64) -> T>(items: &mut [T], q: &Question, argument: u64, item: F)
+    requires { F.IsAlwaysCallable item }
+{
     for place in q.places {
-        if place.argument == argument && place.index < numbers.len() {
-            numbers[place.index] = place.value;
+        if place.argument == argument && place.index < items.len() {
+            items[place.index] = item(place.value);
         }
     }
 }
@@ -83,7 +85,7 @@ pub fn coefficients(
     ensures { IfOk result (λ v. vec_len v ≡ n) }
 {
     let mut out = numbers(alloc, seed, BFieldElement::P, n)?;
-    amend(&mut out, q, argument);
+    amend(&mut out, q, argument, |x| x);
     Ok(out)
 }
 

@@ -7,11 +7,7 @@ use std::alloc::{AllocError, Global};
 // Any bytes, with the question's places.
 pub fn drawn(alloc: Global, q: &Question) -> Result<Vec<u8>, AllocError> {
     let mut job = arguments::bytes(alloc, q.first)?;
-    for place in q.places {
-        if place.argument == 1 && place.index < job.len() {
-            job[place.index] = (place.value % 256) as u8;
-        }
-    }
+    arguments::amend(&mut job, q, 1, |x| (x % 256) as u8);
     Ok(job)
 }
 

@@ -50,7 +50,7 @@ pub fn sealed(alloc: Global, q: &Question) -> Result<Vec<u64>, AllocError> {
     let mut numbers = Vec::new(alloc);
     numbers.extend_from_slice(&packet(q))?;
     numbers.resize(MOST_NUMBERS, 0)?;
-    arguments::amend(&mut numbers, q, 2);
+    arguments::amend(&mut numbers, q, 2, |x| x);
     Ok(numbers)
 }
 
@@ -116,20 +116,30 @@ impl Opening {
     pub fn dec(&self, rt: &HostRuntime, q: &Question) -> Result<(), AllocError> {
         let mut bytes = arguments::packed(rt.alloc(), &self.ciphertext)?;
         bytes.resize(q.second.bytes(), 0)?;
-        let mut shared = u8::output(rt.alloc(), q.third)?;
-        let answer = shared.lend(|shared| kem::dec(&self.secret, &bytes, shared));
-        tell::filled(rt, answer, &shared);
-        Ok(())
+        open(rt, q, &self.secret, &bytes, kem::dec)
     }
 
     pub fn dec_numbers(self, rt: &HostRuntime, q: &Question) -> Result<(), AllocError> {
         let mut numbers = self.ciphertext;
         numbers.truncate(q.second.numbers());
-        let mut shared = u8::output(rt.alloc(), q.third)?;
-        let answer = shared.lend(|shared| kem::dec_numbers(&self.secret, &numbers, shared));
-        tell::filled(rt, answer, &shared);
-        Ok(())
+        open(rt, q, &self.secret, &numbers, kem::dec_numbers)
     }
+}
+
+// With a ciphertext of bytes or of numbers.
+fn open<T, F: Fn(&[u8], &[T], &mut [u8]) -> Result<(), Refusal>>(
+    rt: &HostRuntime,
+    q: &Question,
+    secret: &[u8],
+    ciphertext: &[T],
+    call: F,
+) -> Result<(), AllocError>
+    requires { F.IsAlwaysCallable call }
+{
+    let mut shared = u8::output(rt.alloc(), q.third)?;
+    let answer = shared.lend(|shared| call(secret, ciphertext, shared));
+    tell::filled(rt, answer, &shared);
+    Ok(())
 }
 
 pub fn clear(rt: &HostRuntime, q: &Question) -> Result<(), AllocError> {

@@ -6,6 +6,7 @@ use refusals::Refusal;
 use std::alloc::AllocError;
 
 // A field call's values stand in the places of the first two seeds.
+// Stays: `rt` or `alloc` and the question stand side by side; a struct of them would be taken apart by the first line of each.
 pub fn one_value<F: Fn(u64) -> Result<u64, Refusal>>(rt: &HostRuntime, q: &Question, call: F)
     requires { F.IsAlwaysCallable call }
 {

@@ -1,5 +1,6 @@
 // A question: four arguments and two places that are set.
-// An argument's length may be anything of four digits: what is lent is the rest of it by one more than the most.
+
+// An argument: of its length, which may be any four digits, `numbers` and `bytes` make how much is lent.
 #[derive(Clone, Copy)]
 pub struct Argument {
     pub length: usize,

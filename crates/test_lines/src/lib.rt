@@ -12,6 +12,7 @@ use std::io::Read;
 
 // ---- questions
 // What a hexadecimal digit in lower case stands for; any other byte counts as 0.
+// Stays: `char::to_digit` and `from_str_radix` take upper case too, and the programs answer on every input as they did.
 pub fn digit(byte: u8) -> u64
     ensures { result < 16 }
 {

@@ -7,8 +7,9 @@ use lib.Bits.{bit_xor}
 use lib.ListN.{length, get_or, set, take, drop}
 use Rattle.std.specs.Int.{from_le_bytes, w64}
 use Rattle.codec.specs.Layout.{word}
+use Rattle.codec.proofs.Layouts.{word_of_chunk}
 use Rattle.hash.specs.Running.{xor_bytes}
-use Rattle.hash.proofs.Words.{word_of_chunk, xor_lane_more, xor_two_parts}
+use Rattle.hash.proofs.Words.{xor_lane_more, xor_two_parts}
 use Rattle.hash.proofs.add_part.Goals as goal
 
 pub loop-i-init : goal.loop-i-init

@@ -8,4 +8,4 @@ pub returns : goal.returns
 unfolding hashed
 returns c =
     let args = c.args in
-    c.squeeze.ensures.drawn ∙ ap (drawn args.rate (length args.output.now)) c.fed-sponge.ensures.closed
+    c.squeeze.ensures.drawn ∙ ap (drawn args.rate.bytes (length args.output.now)) c.fed-sponge.ensures.closed

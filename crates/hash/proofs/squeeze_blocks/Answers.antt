@@ -9,14 +9,14 @@ use Rattle.hash.proofs.squeeze_blocks.Goals as goal
 
 pub loop-i-init : goal.loop-i-init
 loop-i-init c =
-    let none = sym (zero-mul c.args.rate) in
+    let none = sym (zero-mul c.args.rate.bytes) in
     record { left = whole_at none (whole_none _ _ _); right = whole_at none (whole_none _ _ _) }
 
 pub loop-i-preserved : goal.loop-i-preserved
 loop-i-preserved c =
-    let r = c.args.rate in
+    let r = c.args.rate.bytes in
     let i = c.loop-i.i in
-    let pos = c.requires.0 in
+    let pos = c.args.rate.fits.0 in
     let cut = add-sub_cancel_left (i * r) r in
     let next : i * r + r ≡ (i + 1) * r = omega arith in
     let fits = block_fits c.min.result r i c.loop-i-test.true in
@@ -31,10 +31,10 @@ loop-i-preserved c =
 
 pub returns-clause-begun : goal.returns-clause-begun
 returns-clause-begun c =
-    let all : c.loop-i.i ≡ c.min.result / c.args.rate = omega (arith, c.loop-i-test.false, c.loop-i.auto.i-end) in
-    begun_whole (whole_at (ap (λ (k : ℕ). k * c.args.rate) all) c.loop-i.invariant.left)
+    let all : c.loop-i.i ≡ c.min.result / c.args.rate.bytes = omega (arith, c.loop-i-test.false, c.loop-i.auto.i-end) in
+    begun_whole (whole_at (ap (λ (k : ℕ). k * c.args.rate.bytes) all) c.loop-i.invariant.left)
 
 pub returns-clause-begun_2 : goal.returns-clause-begun_2
 returns-clause-begun_2 c =
-    let all : c.loop-i.i ≡ c.min.result / c.args.rate = omega (arith, c.loop-i-test.false, c.loop-i.auto.i-end) in
-    begun_whole (whole_at (ap (λ (k : ℕ). k * c.args.rate) all) c.loop-i.invariant.right)
+    let all : c.loop-i.i ≡ c.min.result / c.args.rate.bytes = omega (arith, c.loop-i-test.false, c.loop-i.auto.i-end) in
+    begun_whole (whole_at (ap (λ (k : ℕ). k * c.args.rate.bytes) all) c.loop-i.invariant.right)

@@ -7,6 +7,6 @@ use Rattle.hash.proofs.squeeze_blocks.Given as goal
 
 abbrev pub invariant-loop-i : goal.invariant-loop-i
 invariant-loop-i l = record {
-  left : Whole l.rate (l.i * l.rate) (run (state l.initial.s 2) l.rate) (state l.s 2) l.initial.left l.left;
-  right : Whole l.rate (l.i * l.rate) (run (state l.initial.s 3) l.rate) (state l.s 3) l.initial.right l.right;
+  left : Whole l.rate.bytes (l.i * l.rate.bytes) (run (state l.initial.s 2) l.rate.bytes) (state l.s 2) l.initial.left l.left;
+  right : Whole l.rate.bytes (l.i * l.rate.bytes) (run (state l.initial.s 3) l.rate.bytes) (state l.s 3) l.initial.right l.right;
 }

@@ -1,9 +1,17 @@
 -- `dec_numbers` answers as it is judged, and then as opening does.
+use Rattle.std.proofs.Common.{sym, ◌∙◌}
+use Rattle.std.proofs.lemmas.Result.{err_from_is_err_and}
+use Rattle.refusals.proofs.Calls.{refusal_or}
 use Rattle.kem_calls.proofs.Verdicts.{opens_done, opens_not}
 use Rattle.kem_calls.proofs.dec_numbers.Goals as goal
 
-pub returns-in_default : goal.returns-in_default
-returns-in_default c = opens_not _ _ _ c.in_ok-judge_dec_numbers.ensures.answered c.in_default.ensures
+pub returns-in_err-key : goal.returns-in_err-key
+returns-in_err-key c =
+    let none = c.in_err-key.ensures.ok_part in
+    let three = refusal_or _ _ _ none c.in_err-key.ensures.value in
+    let p = err_from_is_err_and c.from_residual-in_err-key.result c.from_residual-in_err-key.ensures.1 in
+    rw (p.1, p.2, three) (opens_not _ _ _ c.in_ok-judge_dec_numbers.ensures.answered (sym none ∙ c.dec.ensures))
 
 pub returns : goal.returns
-returns c = opens_done _ _ _ _ _ c.in_ok-judge_dec_numbers.ensures.answered c.in-Some.ensures c.copy_from_slice.ensures.after
+returns c =
+    opens_done _ _ _ _ _ c.in_ok-judge_dec_numbers.ensures.answered (sym c.in_ok-key.ensures.ok_part ∙ c.dec.ensures) c.copy_from_slice.ensures.after

@@ -1,35 +1,22 @@
--- `first_bad_packed` finds the first bad number in bytes. The loop's invariant: none was passed.
-use native.Mathlib.Omega.{arith}
-use mathlib.Core.Path.{◌≡◌, sym, ◌∙◌, subst}
-use Prim.Native.Nat.{ℕ, ◌≤◌, ◌<◌}
-use lib.ListN.{get_or}
+-- `first_bad_packed` looks among the chunks, whose numbers are the numbers in the bytes.
+use Prim.Native.Nat.{◌/◌}
+use mathlib.Core.Path.{sym, ap, ◌∙◌}
+use lib.ListN.{length}
+use Rattle.std.specs.Prelude.{nat_le, position}
+use Rattle.std.specs.Int.{from_le_bytes, w64}
+use Rattle.std.specs.Simd.{first_chunks}
+use Rattle.std.proofs.Common.{rules, tests}
+use Rattle.std.proofs.lemmas.Iterator.{YieldsList-from_slice}
+use Rattle.std.proofs.lemmas.Iterator.Search.{position_from_yields_List}
 use Rattle.field.specs.Field.{P}
-use Rattle.codec.specs.Layout.{words}
-use Rattle.codec.proofs.Layouts.{length-words, get_d_words}
-use Rattle.refusals.proofs.Leads.{lead_more, lead-here, lead_end, position-here, position-none}
+use Rattle.codec.proofs.Layouts.{words_of_chunks}
+use Rattle.refusals.proofs.Leads.{position-map}
 use Rattle.refusals.proofs.first_bad_packed.Goals as goal
-use Rattle.refusals.proofs.first_bad_packed.Goals.{After-load}
-
--- the number that was loaded is the one of the list
-loaded : (c : After-load)
-    → c.load.result ≡ get_or (words c.args.s.now) c.loop-i.i 0
-loaded c =
-    c.load.ensures ∙ sym (get_d_words c.args.s.now c.loop-i.i (omega arith))
-
-pub returns-then-load-ge-P : goal.returns-then-load-ge-P
-returns-then-load-ge-P c =
-    let w = words c.args.s.now in
-    let size = length-words c.args.s.now in
-    let bad = subst (λ (x : ℕ). P ≤ x) (loaded (goal.at.returns-then-load-ge-P c).After-load) c.if-load-ge-P.true in
-    position-here w c.loop-i.i (omega (arith, lead-here w c.loop-i.i (omega (arith, size)) bad, c.loop-i.invariant)) (omega (arith, size))
-
-pub loop-i-preserved : goal.loop-i-preserved
-loop-i-preserved c =
-    let good = subst (λ (x : ℕ). x < P) (loaded (goal.at.loop-i-preserved c).After-load) c.if-load-ge-P.false in
-    lead_more (words c.args.s.now) c.loop-i.i (omega (arith, length-words c.args.s.now)) good c.loop-i.invariant
 
 pub returns : goal.returns
 returns c =
-    let w = words c.args.s.now in
-    let size = length-words c.args.s.now in
-    position-none w (omega (arith, lead_end w c.loop-i.i (omega (arith, size)), size, c.loop-i.invariant))
+    let s = c.args.s.now in
+    let chunks = first_chunks 8 (length s / 8) s in
+    position_from_yields_List (λ number. nat_le P (from_le_bytes w64 number)) _ _ _ c.position.ensures.ran
+    (YieldsList-from_slice chunks (c.iter.ensures.rest ∙ c.as_chunks.ensures.front)) (λ x b q k. search (rules, tests))
+    ∙ sym (position-map (from_le_bytes w64) (λ x. nat_le P x) chunks) ∙ ap (position (λ x. nat_le P x)) (words_of_chunks s)

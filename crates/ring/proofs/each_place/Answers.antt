@@ -23,5 +23,8 @@ f-requires g c =
 pub loop-k-preserved : goal.loop-k-preserved
 loop-k-preserved g c =
     let l = c.loop-k in
-    let h : l.k < length c.args.array.now = omega (arith, l.invariant.1.same_length) in
-    (omega arith, placed_more c.f.result h (subst (λ (x : ℕ). goal.F-post g c.args.f l.k x c.f.result) (placed_next l.invariant.1) c.f.ensures) l.invariant.1)
+    let h : l.k < length c.args.array.now = omega (arith, l.invariant.1.same_length) in (
+      omega arith,
+      placed_more c.f.result h (subst (λ (x : ℕ). goal.F-post g c.args.f l.k x c.f.result) (placed_next l.invariant.1) c.f.ensures)
+          l.invariant.1,
+    )

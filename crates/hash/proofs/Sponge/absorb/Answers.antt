@@ -13,7 +13,7 @@ use Rattle.hash.proofs.Sponge.absorb.Goals as goal
 
 pub loop-block-init : goal.loop-block-init
 loop-block-init c =
-    let rate = c.args.rate in
+    let rate = c.args.rate.bytes in
     let old = c.args.self.now in
     let now = c.split_at.result.0.now in
     let it = c.into_iter-block-iterator in
@@ -24,8 +24,8 @@ loop-block-init c =
       within = c.add.ensures.upper_bound;
       begun = λ some.
           ap (λ (s : Running). s.at) c.add.ensures.fed
-          ∙ feed_full rate old now c.requires.0
-          (omega (arith, some, at, ap length later, c.min-room.ensures, c.split_at.ensures.front_len, c.split_at.ensures.back_len, c.requires.0));
+          ∙ feed_full rate old now c.requires
+          (omega (arith, some, at, ap length later, c.min-room.ensures, c.split_at.ensures.front_len, c.split_at.ensures.back_len, c.requires));
       fed =
           ap (λ (s : Running). feed rate s (chunks_rest it.result)) c.add.ensures.fed ∙ ap (feed rate (feed rate old now)) later
           ∙ sym (feed-append rate old now c.split_at.result.1.now)
@@ -35,7 +35,7 @@ loop-block-init c =
 pub loop-block-preserved : goal.loop-block-preserved
 loop-block-preserved c =
     let l = c.loop-block in
-    let rate = c.args.rate in
+    let rate = c.args.rate.bytes in
     let block = c.in-Some.block.now in
     let later = chunks_rest c.next.new.self in
     let steps = c.in-Some.ensures.steps in
@@ -57,4 +57,4 @@ unfolding feed
 returns-clause-fed c =
     let l = c.loop-block in
     let none = nil_from_length (chunks_rest l.block-iterator) c.in-None.ensures.steps.1.0 in
-    sym (ap (feed c.args.rate l.self) none) ∙ l.invariant.fed
+    sym (ap (feed c.args.rate.bytes l.self) none) ∙ l.invariant.fed

@@ -6,8 +6,8 @@ use Rattle.hash.proofs.Sponge.absorb.Given as goal
 
 abbrev pub invariant-loop-block : goal.invariant-loop-block
 invariant-loop-block l = record {
-  whole : chunks_size l.block-iterator ≡ l.rate;
-  within : l.self.at < l.rate;
+  whole : chunks_size l.block-iterator ≡ l.rate.bytes;
+  within : l.self.at < l.rate.bytes;
   begun : 0 < length (chunks_rest l.block-iterator) → l.self.at ≡ 0;
-  fed : feed l.rate l.self (chunks_rest l.block-iterator) ≡ feed l.rate l.fn.self l.fn.part;
+  fed : feed l.rate.bytes l.self (chunks_rest l.block-iterator) ≡ feed l.rate.bytes l.fn.self l.fn.part;
 }

@@ -11,12 +11,12 @@ use Rattle.hash.proofs.Sponge.add.Goals.{After-add_part}
 
 added : (c : After-add_part)
     → let s = c.self.inside in
-    turn c.args.rate c.add_part.new.lanes (s.at + length c.args.part.now) ≡ feed c.args.rate c.args.self.now c.args.part.now
+    turn c.args.rate.bytes c.add_part.new.lanes (s.at + length c.args.part.now) ≡ feed c.args.rate.bytes c.args.self.now c.args.part.now
 added c =
     let s = c.self.inside in
-    let rate = c.args.rate in
+    let rate = c.args.rate.bytes in
     let part = c.args.part.now in
-    let fits = subst (λ (x : Running). (x.at < rate) × (x.at + length part ≤ rate)) (sym c.self.view_is) (c.requires.0, c.requires.1) in
+    let fits = subst (λ (x : Running). (x.at < rate) × (x.at + length part ≤ rate)) (sym c.self.view_is) c.requires in
     fed_in rate part s.lanes _ s.at fits.0 fits.1 c.add_part.ensures ∙ ap (λ (x : Running). feed rate x part) c.self.view_is
 
 pub returns-then-self-rate-clause-fed : goal.returns-then-self-rate-clause-fed

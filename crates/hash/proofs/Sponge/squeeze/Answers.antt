@@ -12,16 +12,16 @@ use Rattle.hash.proofs.Sponge.squeeze.Goals.{Joined-at-rate, else-at-rate, then-
 
 -- the block that is ready
 readied : (c : Joined-at-rate)
-    → (ready c.args.rate (run c.loop-i.self-inside.lanes c.loop-i.at) ≡ run c.if-at-rate.self-inside.lanes c.if-at-rate.at)
-    × (c.if-at-rate.at < c.args.rate)
+    → (ready c.args.rate.bytes (run c.loop-i.self-inside.lanes c.loop-i.at) ≡ run c.if-at-rate.self-inside.lanes c.if-at-rate.at)
+    × (c.if-at-rate.at < c.args.rate.bytes)
 unfolding ready
 readied c =
-    let rate = c.args.rate in
+    let rate = c.args.rate.bytes in
     elim c.if-at-rate.branch [
       | then-at-rate w ↦ (
         turn_yes _ _ _ w.if-at-rate.true
             ∙ sym (ap₂ run (ap (λ (s : Inside). s.lanes) w.self-inside-is ∙ w.permute.ensures) w.at-is),
-        subst (λ (k : ℕ). k < rate) (sym w.at-is) c.requires.0,
+        subst (λ (k : ℕ). k < rate) (sym w.at-is) c.args.rate.fits.0,
       )
       | else-at-rate w ↦ (
         turn_no _ _ _ w.if-at-rate.false ∙ sym (ap₂ run (ap (λ (s : Inside). s.lanes) w.self-inside-is) w.at-is),
@@ -32,7 +32,7 @@ readied c =
 pub loop-i-init : goal.loop-i-init
 unfolding drawn rest
 loop-i-init c = record {
-  within = subst (λ (s : Running). s.at ≤ c.args.rate) (sym c.self.view_is) c.requires.1;
+  within = subst (λ (s : Running). s.at ≤ c.args.rate.bytes) (sym c.self.view_is) c.requires;
   begun = omega arith;
   left = refl;
   bytes = refl;
@@ -41,9 +41,9 @@ loop-i-init c = record {
 pub loop-i-preserved : goal.loop-i-preserved
 loop-i-preserved c =
     let l = c.loop-i in
-    let rate = c.args.rate in
+    let rate = c.args.rate.bytes in
     let n = c.min-n.result in
-    let pos = c.requires.0 in
+    let pos = c.args.rate.fits.0 in
     let joined = readied (goal.at.loop-i-preserved c).Joined-at-rate in
     let e = ap (ready rate) (sym l.invariant.left) ∙ joined.0 in
     let some : 0 < n = omega (arith, c.min-n.ensures, joined.1) in
@@ -60,11 +60,11 @@ pub returns-clause-drawn : goal.returns-clause-drawn
 returns-clause-drawn c =
     let all : c.loop-i.i ≡ length c.args.out.now = omega (arith, c.loop-i.invariant.begun, c.loop-i.auto.out, c.loop-i-test.false) in
     let out = c.args.out.now in
-    drawn-all _ _ _ out _ all c.loop-i.invariant.bytes ∙ ap (drawn c.args.rate (length out)) c.self.view_is
+    drawn-all _ _ _ out _ all c.loop-i.invariant.bytes ∙ ap (drawn c.args.rate.bytes (length out)) c.self.view_is
 
 pub returns-clause-rest : goal.returns-clause-rest
 returns-clause-rest c =
     let all : c.loop-i.i ≡ length c.args.out.now = omega (arith, c.loop-i.invariant.begun, c.loop-i.auto.out, c.loop-i-test.false) in
     let n = length c.args.out.now in
     let start = c.self.inside in
-    c.loop-i.invariant.left ∙ ap (λ (k : ℕ). rest c.args.rate k (run start.lanes start.at)) all ∙ ap (rest c.args.rate n) c.self.view_is
+    c.loop-i.invariant.left ∙ ap (λ (k : ℕ). rest c.args.rate.bytes k (run start.lanes start.at)) all ∙ ap (rest c.args.rate.bytes n) c.self.view_is

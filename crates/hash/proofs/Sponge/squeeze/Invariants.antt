@@ -8,10 +8,10 @@ invariant-loop-i l =
     let s = l.self-inside in
     let start = l.initial.self-inside in
     record {
-      within : l.at ≤ l.rate;
+      within : l.at ≤ l.rate.bytes;
       begun : l.i ≤ length l.initial.out;
-      left : run s.lanes l.at ≡ rest l.rate l.i (run start.lanes start.at);
-      bytes : l.out ≡ drawn l.rate l.i (run start.lanes start.at) ++ drop l.i l.initial.out;
+      left : run s.lanes l.at ≡ rest l.rate.bytes l.i (run start.lanes start.at);
+      bytes : l.out ≡ drawn l.rate.bytes l.i (run start.lanes start.at) ++ drop l.i l.initial.out;
     }
 
 abbrev pub decreases-loop-i : goal.decreases-loop-i
