@@ -59,7 +59,7 @@ fn judge_dec(secret: usize, ciphertext: &[u8], shared: usize) -> Result<(), Refu
     refusals::packed(2, ciphertext, CIPHERTEXT_BYTES, 0)
 }
 
-// Stays: the type of the ciphertext and the last step differ from `judge_dec`; a trait of both types would have a method for just that step.
+// Stays: it differs from `judge_dec` in the ciphertext's length and in the last step; shared, the three lengths would be judged apart from it.
 #[tactic(auto, using(refusals::proofs::Calls::steps), unfolding(refusals::specs::Judgement::judged))]
 fn judge_dec_numbers(secret: usize, ciphertext: &[u64], shared: usize) -> Result<(), Refusal>
     ensures { Judges (asks.dec_numbers secret ciphertext.now shared) result }

@@ -60,6 +60,7 @@ fn answer(rt: &HostRuntime, name: &[u8; 4], q: &Question) -> Result<bool, AllocE
     Ok(true)
 }
 
+// Stays: as `main` of test_answers.
 fn main(rt: HostRuntime) -> Result<(), AllocError> {
     for _ in 0..MOST {
         let Some(name) = test_lines::read_name(&rt) else {

@@ -1,10 +1,10 @@
 -- `squeeze_blocks` has drawn i blocks of both states.
 use native.Mathlib.Omega.{arith}
 use native.Mathlib.Nat.{add-sub_cancel_left, zero-mul}
-use Prim.Native.Nat.{ℕ, ◌+◌, ◌*◌, ◌/◌}
-use mathlib.Core.Path.{◌≡◌, ap, sym}
+use Prim.Native.Nat.{◌+◌, ◌*◌}
+use mathlib.Core.Path.{◌≡◌, sym}
 use lib.ListN.{length-take, length-drop}
-use Rattle.hash.proofs.Steps.{whole_none, whole_at, whole_more, begun_whole, block_fits}
+use Rattle.hash.proofs.Steps.{whole_none, whole_at, whole_more, block_fits}
 use Rattle.hash.proofs.squeeze_blocks.Goals as goal
 
 pub loop-i-init : goal.loop-i-init
@@ -28,13 +28,3 @@ loop-i-preserved c =
           (whole_more _ _ _ _ _ _ _ pos c.loop-i.invariant.right c.permute_two.ensures.right _ _ _ (omega (arith, fits, c.min.ensures))
           c.copy_state-in-loop-i.ensures (simp (length-take, length-drop) (omega arith)) cut);
     }
-
-pub returns-clause-begun : goal.returns-clause-begun
-returns-clause-begun c =
-    let all : c.loop-i.i ≡ c.min.result / c.args.rate.bytes = omega (arith, c.loop-i-test.false, c.loop-i.auto.i-end) in
-    begun_whole (whole_at (ap (λ (k : ℕ). k * c.args.rate.bytes) all) c.loop-i.invariant.left)
-
-pub returns-clause-begun_2 : goal.returns-clause-begun_2
-returns-clause-begun_2 c =
-    let all : c.loop-i.i ≡ c.min.result / c.args.rate.bytes = omega (arith, c.loop-i-test.false, c.loop-i.auto.i-end) in
-    begun_whole (whole_at (ap (λ (k : ℕ). k * c.args.rate.bytes) all) c.loop-i.invariant.right)

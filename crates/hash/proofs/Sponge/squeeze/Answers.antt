@@ -3,10 +3,10 @@ use native.Mathlib.Omega.{arith}
 use native.Mathlib.Nat.{add-sub_cancel_left}
 use Prim.Native.Nat.{ℕ, ◌+◌, ◌<◌, ◌≤◌}
 use mathlib.Core.Path.{◌≡◌, refl, sym, ◌∙◌, ap, ap₂, subst}
-use lib.ListN.{length, length-take, length-drop}
+use lib.ListN.{length-take, length-drop}
 use Rattle.hash.specs.Running.{Running, run, ready, drawn, rest}
 use Rattle.hash.specs.declared.Sponge.TheInside.{Inside}
-use Rattle.hash.proofs.Cuts.{turn_yes, turn_no, rest-step, draw_step, drawn-all}
+use Rattle.hash.proofs.Cuts.{turn_yes, turn_no, rest-step, draw_step}
 use Rattle.hash.proofs.Sponge.squeeze.Goals as goal
 use Rattle.hash.proofs.Sponge.squeeze.Goals.{Joined-at-rate, else-at-rate, then-at-rate}
 
@@ -55,16 +55,3 @@ loop-i-preserved c =
       bytes = draw_step _ _ _ _ _ _ pos some e fits _ _ _ _ _ l.invariant.bytes c.copy_out.ensures (simp (length-take, length-drop) (omega arith))
           (add-sub_cancel_left l.i n);
     }
-
-pub returns-clause-drawn : goal.returns-clause-drawn
-returns-clause-drawn c =
-    let all : c.loop-i.i ≡ length c.args.out.now = omega (arith, c.loop-i.invariant.begun, c.loop-i.auto.out, c.loop-i-test.false) in
-    let out = c.args.out.now in
-    drawn-all _ _ _ out _ all c.loop-i.invariant.bytes ∙ ap (drawn c.args.rate.bytes (length out)) c.self.view_is
-
-pub returns-clause-rest : goal.returns-clause-rest
-returns-clause-rest c =
-    let all : c.loop-i.i ≡ length c.args.out.now = omega (arith, c.loop-i.invariant.begun, c.loop-i.auto.out, c.loop-i-test.false) in
-    let n = length c.args.out.now in
-    let start = c.self.inside in
-    c.loop-i.invariant.left ∙ ap (λ (k : ℕ). rest c.args.rate.bytes k (run start.lanes start.at)) all ∙ ap (rest c.args.rate.bytes n) c.self.view_is
