@@ -52,7 +52,8 @@ others = matrix_bytes - cut
 abbrev pub continued : Running → List ℕ → List ℕ
 continued s bytes = take cut bytes ++ drawn 136 others s
 
--- continued so they are all of the seed's
+-- continued so they are all of the seed's, and the second part begins with a block
 pub record Begun (seed : List ℕ) (s : Running) (bytes : List ℕ) : Type 0 where
   pub size : length bytes ≡ matrix_bytes
+  pub place : s.at ≡ 136
   pub whole : continued s bytes ≡ shake256 seed matrix_bytes

@@ -10,4 +10,4 @@ returns c =
     let made = c.derive_secret_vectors.ensures in
     let bytes = c.args.bytes.now in
     let lent = length-take-le cut bytes (omega (arith, c.told-bytes)) in
-    (begins bytes _ lent c.told-bytes c.of-stream.ensures made.0 made.1, made.2)
+    (begins bytes _ lent c.told-bytes c.of-stream.ensures.0 c.of-stream.ensures.1 made.0 made.1, made.2)

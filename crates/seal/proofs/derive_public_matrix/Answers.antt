@@ -9,5 +9,5 @@ pub returns : goal.returns
 unfolding G
 returns c =
     let drawn = c.derive_secret_vectors.ensures in
-    let bytes = drawn.0 ∙ c.of-stream.ensures.bytes matrix_bytes in
+    let bytes = drawn.0 ∙ c.of-stream.ensures.0.bytes matrix_bytes in
     (c.sample_matrix.ensures ∙ ap (uniforms matrix_numbers) bytes, drawn.2)

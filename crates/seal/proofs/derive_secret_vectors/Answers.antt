@@ -14,7 +14,7 @@ pub returns : goal.returns
 unfolding first second
 returns c =
     let both = c.squeeze_two.ensures in
-    let bytes = both.drawn_2.bytes ∙ c.of-beside.ensures.bytes vectors_bytes in (
+    let bytes = both.drawn_2.bytes ∙ c.of-beside.ensures.0.bytes vectors_bytes in (
       both.drawn.bytes,
       both.drawn.left,
       record {
