@@ -1,5 +1,6 @@
 -- `inverse` gives the inverse: what it answers, times the number, is 1 modulo p; it has no answer for 0 alone.
 use Rattle.std.proofs.Common.{◌≡◌, ℕ, ◌-◌, ◌*◌, ◌%◌, ◌^◌, ◌<◌, Bool, ◌⊎◌, Some, None, refl, ap, inl, inr, eq-zero-or-pos, ne_of_gt, ne_eqb}
+use Rattle.std.proofs.Common.{mod-lt, lit<}
 use Rattle.laws.specs.Choices.{pick}
 use Rattle.field.specs.declared.BFieldElement.{BFieldElement}
 use Rattle.field.specs.declared.BFieldElement.TheInside.{Inside}
@@ -16,9 +17,9 @@ pub inverted_other : (x : ℕ) → 0 < x → inverted x ≡ Some (x ^ (P - 2) % 
 unfolding inverted
 inverted_other x l = ap (λ (b : Bool). pick b None (Some (x ^ (P - 2) % P))) (ne_eqb x 0 (λ e. ne_of_gt l e))
 
--- for every x from 1 to p - 1 there is an answer e, and e times x is 1
-pub inverse_right : (x : ℕ) → 0 < x → x < P → (e : BFieldElement) × (inverted x ≡ Some e) × ((e * x) % P ≡ 1)
-inverse_right x l h = (x ^ (P - 2) % P, inverted_other x l, inverse_is x l h)
+-- for every x from 1 to p - 1 there is an answer e, which is below p, and e times x is 1
+pub inverse_right : (x : ℕ) → 0 < x → x < P → (e : BFieldElement) × (inverted x ≡ Some e) × ((e * x) % P ≡ 1) × (e < P)
+inverse_right x l h = (x ^ (P - 2) % P, inverted_other x l, inverse_is x l h, mod-lt (x ^ (P - 2)) (lit< tt))
 
 -- what the code tests: an element stands for 0 exactly where its word is 0
 pub word_zero : (e : Inside) → e.0 ≡ 0 → num e ≡ 0

@@ -34,7 +34,7 @@ unfolding fitted
 fitted_no answer old h = simp (lt-leb _ _ h)
 
 -- ---- a part, put in its place
-put_is : (k n : ℕ) (r r' old : List ℕ) → n ≡ length r → r' ≡ r → put k n r' old ≡ put k (length r) r old
+pub put_is : (k n : ℕ) (r r' old : List ℕ) → n ≡ length r → r' ≡ r → put k n r' old ≡ put k (length r) r old
 put_is k n r r' old size e = rw (e, size) refl
 
 -- ---- one byte and two parts behind it
