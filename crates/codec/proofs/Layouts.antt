@@ -23,7 +23,7 @@ pub length-words : (l : List ℕ) → length (words l) ≡ length l / 8
 unfolding words
 length-words l = length-tab (length l / 8) (λ i. word l (8 * i))
 
-get_d_words : (l : List ℕ) (i : ℕ) → i < length l / 8 → get_or (words l) i 0 ≡ word l (8 * i)
+pub get_d_words : (l : List ℕ) (i : ℕ) → i < length l / 8 → get_or (words l) i 0 ≡ word l (8 * i)
 unfolding words
 get_d_words l i h = get_or-tab (length l / 8) (λ j. word l (8 * j)) 0 i h
 
@@ -101,6 +101,10 @@ words_of_chunks s =
     let size = length_chunks 8 n s in
     is_tab n (λ i. word s (8 * i)) 0 (map (from_le_bytes w64) chunks) (length-map chunks (from_le_bytes w64) ∙ size)
     (λ i h. get_or-map (from_le_bytes w64) chunks i [] 0 (omega (arith, size)) ∙ word_of_chunk n i s [] h)
+
+-- the bytes of a number that is x
+pub bytes_as : (x y : ℕ) {ys : List ℕ} → ys ≡ to_le_bytes w64 y → y ≡ x → ys ≡ to_le_bytes w64 x
+bytes_as x y e u = e ∙ ap (to_le_bytes w64) u
 
 -- eight bytes that were written as a part of the list
 pub with_bytes : (l ys : List ℕ) (o k x : ℕ) → o + 8 ≤ length l → k ≡ 8 → ys ≡ to_le_bytes w64 x
