@@ -42,7 +42,7 @@ fn answer(rt: &HostRuntime, name: &[u8; 4]) -> bool {
     true
 }
 
-// Stays: the loop is that of `main` of test_calls but for `?` and what a name leads to; a worker of both is a closure longer than these lines.
+// Stays: the loop is that of `main` of test_calls but for what a name leads to; a worker of both is a closure longer than these lines.
 fn main(rt: HostRuntime) {
     for _ in 0..MOST {
         let Some(name) = test_lines::read_name(&rt) else {

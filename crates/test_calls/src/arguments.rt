@@ -1,10 +1,11 @@
 // What an argument holds: draws from a seed, and the places that the question sets. An output holds draws too, so that whether it was kept is seen
 // beside them.
-ghost use Rattle.std.specs.Prelude.{◌≡◌, ◌<◌, ◌≤◌, IfOk, vec_len};
+ghost use Rattle.std.specs.Prelude.{◌≡◌, ◌<◌, ◌≤◌, length, min};
+ghost use Rattle.arrayvec.specs.ArrayVec.{array_vec_len};
 
 use crate::question::{Argument, Question};
+use arrayvec::ArrayVec;
 use field::BFieldElement;
-use std::alloc::{AllocError, Global};
 use test_lines::Run;
 
 // No question lends more numbers.
@@ -12,6 +13,12 @@ pub const MOST_NUMBERS: usize = 1025;
 
 // No question lends more bytes.
 pub const MOST_BYTES: usize = 9217;
+
+// Both lie in the value itself, so that no run stops for want of memory.
+// What holds them is not inlined, as else the frame of main would have room for all of them at once.
+pub type Numbers = ArrayVec<u64, MOST_NUMBERS>;
+
+pub type Bytes = ArrayVec<u8, MOST_BYTES>;
 
 impl Argument {
     pub fn numbers(self) -> usize
@@ -34,7 +41,9 @@ fn draw(x: u64) -> u64 {
 }
 
 // Gives the last draw, from which a public key goes on.
-pub fn draw_bytes(out: &mut [u8], seed: u64) -> u64 {
+pub fn draw_bytes(out: &mut [u8], seed: u64) -> u64
+    ensures { length out.new ≡ length out.old }
+{
     let mut x = seed;
     for byte in out.iter_mut() {
         x = draw(x);
@@ -44,23 +53,26 @@ pub fn draw_bytes(out: &mut [u8], seed: u64) -> u64 {
 }
 
 // As many bytes as the argument has.
-pub fn bytes(alloc: Global, argument: Argument) -> Result<Vec<u8>, AllocError> {
-    let mut out = vec![in alloc; 0u8; argument.bytes()]?;
+#[inline(never)]
+pub fn bytes(argument: Argument) -> Bytes {
+    let mut out = Bytes::new();
+    resize(&mut out, argument.bytes());
     draw_bytes(&mut out, argument.seed);
-    Ok(out)
+    out
 }
 
-fn numbers(alloc: Global, seed: u64, below: u64, n: usize) -> Result<Vec<u64>, AllocError>
+fn numbers(seed: u64, below: u64, n: usize) -> Numbers
     requires { 0 < below }
-    ensures { IfOk result (λ v. vec_len v ≡ n) }
+    ensures { array_vec_len result ≡ min n MOST_NUMBERS }
 {
-    let mut out = vec![in alloc; 0u64; n]?;
+    let mut out = Numbers::new();
+    let _ = out.try_extend_from_slice(&[0; MOST_NUMBERS][..n.min(MOST_NUMBERS)]);
     let mut x = seed;
     for number in out.iter_mut() {
         x = draw(x);
         *number = x % below;
     }
-    Ok(out)
+    out
 }
 
 // The places that the question sets in one of its arguments, each to the item of its value.
@@ -74,46 +86,49 @@ pub fn amend<T: Copy + Drop, F: Fn(u64) -> T>(items: &mut [T], q: &Question, arg
     }
 }
 
-// An argument of n coefficients.
-pub fn coefficients(
-    alloc: Global,
-    q: &Question,
-    argument: u64,
-    seed: u64,
-    n: usize,
-) -> Result<Vec<u64>, AllocError>
-    ensures { IfOk result (λ v. vec_len v ≡ n) }
+// An argument of n coefficients, of which no more than an argument's have room.
+#[inline(never)]
+pub fn coefficients(q: &Question, argument: u64, seed: u64, n: usize) -> Numbers
+    ensures { array_vec_len result ≡ min n MOST_NUMBERS }
 {
-    let mut out = numbers(alloc, seed, BFieldElement::P, n)?;
+    let mut out = numbers(seed, BFieldElement::P, n);
     amend(&mut out, q, argument, |x| x);
-    Ok(out)
+    out
 }
 
-// The bytes of numbers.
-pub fn packed(alloc: Global, numbers: &[u64]) -> Result<Vec<u8>, AllocError> {
-    let mut out = Vec::new(alloc);
+// The bytes of numbers, which have room.
+pub fn packed(numbers: &[u64]) -> Bytes {
+    let mut out = Bytes::new();
     for number in numbers {
-        out.extend_from_slice(&number.to_le_bytes())?;
+        let _ = out.try_extend_from_slice(&number.to_le_bytes());
     }
-    Ok(out)
+    out
+}
+
+// Cut to n bytes, or with zeros behind.
+pub fn resize(bytes: &mut Bytes, n: usize) {
+    bytes.truncate(n);
+    let zeros = n.saturating_sub(bytes.len()).min(MOST_BYTES);
+    let _ = bytes.try_extend_from_slice(&[0; MOST_BYTES][..zeros]);
 }
 
 // An output: a call is lent its front, of `size` items. What stands behind is there to be seen kept.
 #[derive(Drop)]
-pub struct Output<T> {
-    before: Vec<T>,
-    held: Vec<T>,
+pub struct Output<T, const N: usize> {
+    before: ArrayVec<T, N>,
+    held: ArrayVec<T, N>,
     size: usize,
 }
 
-impl<T: Copy + Drop + PartialEq> Output<T> {
-    pub fn new(held: Vec<T>, size: usize) -> Result<Output<T>, AllocError> {
-        let before = held.clone()?;
-        Ok(Output { before, held, size })
+impl<T: Copy + Default + Drop + PartialEq, const N: usize> Output<T, N> {
+    pub fn new(held: ArrayVec<T, N>, size: usize) -> Output<T, N> {
+        let mut before = ArrayVec::new();
+        let _ = before.try_extend_from_slice(&held);
+        Output { before, held, size }
     }
 
     fn lent(&self) -> usize
-        ensures { result ≤ vec_len self.now.held }
+        ensures { result ≤ array_vec_len self.now.held }
     {
         self.size.min(self.held.len())
     }
@@ -135,11 +150,12 @@ impl<T: Copy + Drop + PartialEq> Output<T> {
     }
 
     // Lends another output's front too.
-    pub fn lend_both<U: Copy + Drop + PartialEq, R, F: FnOnce(&mut [T], &mut [U]) -> R>(
-        &mut self,
-        other: &mut Output<U>,
-        call: F,
-    ) -> R
+    pub fn lend_both<
+        U: Copy + Default + Drop + PartialEq,
+        const M: usize,
+        R,
+        F: FnOnce(&mut [T], &mut [U]) -> R,
+    >(&mut self, other: &mut Output<U, M>, call: F) -> R
         requires { F.IsAlwaysCallable call }
     {
         let m = self.lent();
@@ -148,17 +164,18 @@ impl<T: Copy + Drop + PartialEq> Output<T> {
     }
 }
 
-// What an output holds: bytes or numbers.
-pub trait Item: Copy + Drop + PartialEq {
-    fn output(alloc: Global, argument: Argument) -> Result<Output<Self>, AllocError>;
+// What an output of N items holds: bytes or numbers.
+pub trait Item<const N: usize>: Copy + Default + Drop + PartialEq {
+    fn output(argument: Argument) -> Output<Self, N>;
 
     // As an answer shows what was lent.
     fn put(rt: &HostRuntime, items: &[Self]);
 }
 
-impl Item for u8 {
-    fn output(alloc: Global, argument: Argument) -> Result<Output<u8>, AllocError> {
-        let mut held = vec![in alloc; 0u8; MOST_BYTES]?;
+impl Item<MOST_BYTES> for u8 {
+    #[inline(never)]
+    fn output(argument: Argument) -> Output<u8, MOST_BYTES> {
+        let mut held = Bytes::from([0; MOST_BYTES]);
         draw_bytes(&mut held, argument.seed);
         Output::new(held, argument.bytes())
     }
@@ -168,10 +185,11 @@ impl Item for u8 {
     }
 }
 
-impl Item for u64 {
+impl Item<MOST_NUMBERS> for u64 {
     // Its numbers may be anything.
-    fn output(alloc: Global, argument: Argument) -> Result<Output<u64>, AllocError> {
-        let held = numbers(alloc, argument.seed, u64::MAX, MOST_NUMBERS)?;
+    #[inline(never)]
+    fn output(argument: Argument) -> Output<u64, MOST_NUMBERS> {
+        let held = numbers(argument.seed, u64::MAX, MOST_NUMBERS);
         Output::new(held, argument.numbers())
     }
 

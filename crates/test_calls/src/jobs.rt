@@ -1,43 +1,47 @@
 // The job call.
-use crate::arguments::Item;
+use crate::arguments::{Bytes, Item};
 use crate::question::Question;
 use crate::{arguments, of_kem, tell};
-use std::alloc::{AllocError, Global};
 
 // Any bytes, with the question's places.
-pub fn drawn(alloc: Global, q: &Question) -> Result<Vec<u8>, AllocError> {
-    let mut job = arguments::bytes(alloc, q.first)?;
+#[inline(never)]
+pub fn drawn(q: &Question) -> Bytes {
+    let mut job = arguments::bytes(q.first);
     arguments::amend(&mut job, q, 1, |x| (x % 256) as u8);
-    Ok(job)
+    job
+}
+
+// A kind, and what follows, which has room.
+fn job_of(kind: u8, first: &[u8], second: &[u8]) -> Bytes {
+    let mut job = Bytes::new();
+    let _ = job.try_push(kind);
+    let _ = job.try_extend_from_slice(first);
+    let _ = job.try_extend_from_slice(second);
+    job
 }
 
 // A job of sealing.
-pub fn enc(alloc: Global, q: &Question) -> Result<Vec<u8>, AllocError> {
-    let mut public = of_kem::public_key(alloc, q)?;
+#[inline(never)]
+pub fn enc(q: &Question) -> Bytes {
+    let mut public = of_kem::public_key(q);
     public.truncate(2080);
     let mut randomness = [0u8; 32];
     arguments::draw_bytes(&mut randomness, q.second.seed);
-    let mut job = Vec::new(alloc);
-    job.push(2)?;
-    job.extend_from_slice(&public)?;
-    job.extend_from_slice(&randomness)?;
-    Ok(job)
+    job_of(2, &public, &randomness)
 }
 
 // A job of opening.
-pub fn dec(alloc: Global, q: &Question) -> Result<Vec<u8>, AllocError> {
-    let mut job = Vec::new(alloc);
-    job.push(3)?;
-    job.extend_from_slice(&of_kem::secret_key(q.first.seed))?;
-    job.extend_from_slice(&arguments::packed(alloc, &of_kem::sealed(alloc, q)?)?)?;
-    Ok(job)
+#[inline(never)]
+pub fn dec(q: &Question) -> Bytes {
+    let ciphertext = arguments::packed(&of_kem::sealed(q));
+    job_of(3, &of_kem::secret_key(q.first.seed), &ciphertext)
 }
 
 // The answer to a job, cut or with zeros behind to the length that the question says.
-pub fn answer(rt: &HostRuntime, q: &Question, mut job: Vec<u8>) -> Result<(), AllocError> {
-    job.resize(q.first.bytes(), 0)?;
-    let mut out = u8::output(rt.alloc(), q.third)?;
+#[inline(never)]
+pub fn answer(rt: &HostRuntime, q: &Question, mut job: Bytes) {
+    arguments::resize(&mut job, q.first.bytes());
+    let mut out = u8::output(q.third);
     let size = out.lend(|out| galmuriec::job(&job, out));
     tell::written(rt, size, &out);
-    Ok(())
 }

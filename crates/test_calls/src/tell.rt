@@ -1,5 +1,5 @@
 // An answer's line, but for its end.
-use crate::arguments::{Item, Output};
+use crate::arguments::{Item, MOST_BYTES, Output};
 use refusals::{Record, Refusal};
 use test_lines::Run;
 
@@ -10,7 +10,7 @@ pub trait Outputs {
     fn put(&self, rt: &HostRuntime);
 }
 
-impl<T: Item> Outputs for Output<T> {
+impl<T: Item<N>, const N: usize> Outputs for Output<T, N> {
     fn are_kept(&self) -> bool {
         self.is_kept(0)
     }
@@ -67,7 +67,7 @@ pub fn filled<O: Outputs>(rt: &HostRuntime, answer: Result<(), Refusal>, outputs
 }
 
 // A job's answer at the front of the output, where it fits.
-pub fn written(rt: &HostRuntime, size: usize, output: &Output<u8>) {
+pub fn written(rt: &HostRuntime, size: usize, output: &Output<u8, MOST_BYTES>) {
     match output.front().get(..size) {
         Some(front) => {
             test_lines::put(rt, format_args!("wrote {size:016x} {}", Run(front)));

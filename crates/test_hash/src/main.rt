@@ -7,7 +7,7 @@
 //   shak NNNNN   N bytes of SHAKE256 in hex; of more than 64 the first 32 and the last 32, with two dots between. Any other word is as this one
 #![tactic(auto)]
 
-use std::alloc::{AllocError, Global};
+use arrayvec::ArrayVec;
 use test_lines::Run;
 
 // No run has more questions.
@@ -54,15 +54,21 @@ fn sha3(message: &[u8]) -> [u8; 32] {
     output
 }
 
-fn shake(alloc: Global, message: &[u8], size: usize) -> Result<Vec<u8>, AllocError> {
-    let mut output = vec![in alloc; 0u8; size.min(LONGEST_ANSWER)]?;
-    hash::shake256(message, &mut output);
-    Ok(output)
+// Zeros, of which no more than N have room: an ArrayVec, so that no run stops for want of memory.
+fn zeros<const N: usize>(size: usize) -> ArrayVec<u8, N> {
+    let mut bytes = ArrayVec::from([0u8; N]);
+    bytes.truncate(size);
+    bytes
 }
 
-fn main(rt: HostRuntime) -> Result<(), AllocError> {
-    let alloc = rt.alloc();
-    let mut message = Vec::new(alloc);
+fn shake(message: &[u8], size: usize) -> ArrayVec<u8, LONGEST_ANSWER> {
+    let mut output = zeros(size);
+    hash::shake256(message, &mut output);
+    output
+}
+
+fn main(rt: HostRuntime) {
+    let mut message = zeros::<LONGEST_MESSAGE>(0);
     for _ in 0..MOST {
         let Some(word) = test_lines::read_name(&rt) else {
             break;
@@ -70,13 +76,12 @@ fn main(rt: HostRuntime) -> Result<(), AllocError> {
         let size = read_size(&rt);
         match &word {
             b"mess" => {
-                message = vec![in alloc; 0u8; size.min(LONGEST_MESSAGE)]?;
+                message = zeros(size);
                 read_message(&rt, &mut message);
             }
             b"sha3" => test_lines::tell(&rt, Run(&sha3(&message))),
-            b"full" => test_lines::tell(&rt, Run(&shake(alloc, &message, size)?)),
-            _ => tell_ends(&rt, &shake(alloc, &message, size)?),
+            b"full" => test_lines::tell(&rt, Run(&shake(&message, size))),
+            _ => tell_ends(&rt, &shake(&message, size)),
         }
     }
-    Ok(())
 }
