@@ -38,12 +38,12 @@ opens_done args o k old new e f n =
     done args _ _ _ _ e (rw (← both.0)) (rw (← both.0, n, both.1))
 
 -- ---- there is none, and the buffer is as it was
-pub opens_not : (args : List Asked) (o : Opened) (old : List ℕ) → fine ≡ judged args
-    → None ≡ key_in o → Call args (verdict o) (refuses (sign 3 0 0)) (into old (key_or o old) ∷ []) (old ∷ [])
+pub opens_not : (args : List Asked) (o : Opened) (old new : List ℕ) → fine ≡ judged args
+    → None ≡ key_in o → new ≡ old → Call args (verdict o) (refuses (sign 3 0 0)) (into old (key_or o old) ∷ []) (new ∷ [])
 unfolding verdict
-opens_not args o old e f =
+opens_not args o old new e f same =
     let told = sym (opens-not o old f).0 in
-    done args _ _ _ _ e (rw told) (rw told)
+    done args _ _ _ _ e (rw told) (rw (told, same))
 
 -- ---- a cleared key
 zeros_from : (i n : ℕ) → replicate {A = ℕ} n 0 ≡ tab_from i n (λ j. 0)
